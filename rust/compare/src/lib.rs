@@ -23,3 +23,4 @@ pub mod steps;
 pub mod subject;
 pub mod systems;
 pub mod tally;
+pub mod typed;

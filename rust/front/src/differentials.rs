@@ -2,14 +2,14 @@
 
 use crate::expressions::Polynomial;
 use crate::tokens::{unread, Place, Unread};
-use crate::typing::{Heading, Statement};
+use crate::typing::{occurring, Heading, Statement};
 use crate::writing::join_term;
 use std::collections::BTreeMap;
 
 /// The highest derivative, and the highest power of x (SCOPE 10.2).
 pub(crate) const HIGHEST: i64 = 2;
 /// No factor is past ± this (SCOPE 10.5).
-const FACTOR: i128 = 1_048_576;
+const FACTOR: u128 = 1_048_576;
 /// The most equations (SCOPE 10.3).
 const EQUATIONS: usize = 6;
 
@@ -55,20 +55,19 @@ pub(crate) fn sheet_of(
     if names.is_empty() {
         return unread(end, "there is no unknown: write an equation, or a first line with `unknowns y`");
     }
-    let occurring = || statements.iter().flat_map(|s| &s.linear.terms).filter(|(_, (p, _))| !p.is_empty());
-    let derivatives = heading.derivatives.or_else(|| occurring().map(|((k, _), _)| *k).max()).unwrap_or(0);
-    let powers = heading.powers.or_else(|| occurring().map(|(_, (p, _))| p.len() as i64 - 1).max()).unwrap_or(0);
+    let derivatives = heading.derivatives.or_else(|| occurring(statements).map(|((k, _), _)| *k).max()).unwrap_or(0);
+    let highest = |(_, (p, _)): (&_, &(Polynomial, Place))| p.len() as i64 - 1;
+    let powers = heading.powers.or_else(|| occurring(statements).map(highest).max()).unwrap_or(0);
     let (derivatives, powers) = (derivatives.min(HIGHEST), powers.min(HIGHEST));
-    if derivatives < 0 || powers < 0 {
-        return unread(Place { line: 1, column: 1 }, "derivatives and powers are from 0 to 2");
-    }
     let mut text = format!("3 {} {derivatives} {powers}\n{}\n", names.len(), statements.len());
     for (at, statement) in statements.iter().enumerate() {
         if at >= EQUATIONS {
             return unread(statement.place, "six equations are the most");
         }
         if !statement.linear.free.is_empty() {
-            return unread(statement.place, "an equation of a differential sheet has an unknown in every term");
+            let reason = "an equation of a differential sheet has an unknown in every term";
+            let load = "an unknown with an equation of its own can stand for a load: q' = 0 for a constant q";
+            return unread(statement.place, format!("{reason}; {load}"));
         }
         text += &line(statement, derivatives, powers)?;
     }
@@ -87,7 +86,7 @@ fn line(statement: &Statement, derivatives: i64, powers: i64) -> Result<String, 
             return unread(*place, format!("the power {} of x, and {powers} is the highest here", p.len() - 1));
         }
         for (j, &a) in p.iter().enumerate().filter(|(_, &a)| a != 0) {
-            if a.abs() > FACTOR {
+            if a.unsigned_abs() > FACTOR {
                 return unread(*place, format!("the factor {a} is past ±1,048,576"));
             }
             terms.insert((-k, j, c), a);

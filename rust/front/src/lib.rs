@@ -19,6 +19,7 @@ mod induce;
 mod json;
 mod log;
 pub mod log_places;
+mod names;
 pub mod output;
 pub mod places;
 mod replay;

@@ -1,16 +1,16 @@
 //! Equations as a person writes them, made a sheet or a differential sheet.
 
 use crate::differentials;
-use crate::expressions::{Kind, Linear, Polynomial, Reader};
+use crate::expressions::{fitting, Kind, Linear, Polynomial, Reader, BLOCK};
 use crate::tokens::{unread, words, Place, Unread, Word};
 use wurgalm::System;
 
+/// A text of more bytes is not looked at: what `wurgalm show` writes of the longest sheet is shorter.
+const LONGEST: usize = 1 << 20;
 /// No coefficient and no n0 of a sheet is past ± this (SCOPE 1.4, 1.22).
 const C: i128 = 268_435_455;
 /// The highest power of n (SCOPE 1.4).
 const DEGREE: usize = 15;
-/// Blocks are within ± this (SCOPE 1.2).
-const BLOCK: i64 = 64;
 /// Highest minus lowest block is at most this (SCOPE 1.2).
 const SPAN: i64 = 4;
 /// The most equations (SCOPE 1.1) and the most relations (SCOPE 1.23).
@@ -19,9 +19,10 @@ const MOST: [usize; 2] = [6, 16];
 /// What the first line says.
 #[derive(Default)]
 pub(crate) struct Heading {
+    pub place: Place,
     pub l: Option<i64>,
     pub t: Option<i64>,
-    pub order: Vec<i64>,
+    pub order: Option<Vec<i64>>,
     pub derivatives: Option<i64>,
     pub powers: Option<i64>,
 }
@@ -33,39 +34,65 @@ pub(crate) struct Statement {
     pub place: Place,
 }
 
-/// The bytes of the sheet that a text stands for. It is taken for a differential one where it has primes or its first line says so, or
-/// where that is asked for.
+/// What a text stands for.
+pub struct Typed {
+    /// The bytes of a sheet or of a differential sheet.
+    pub sheet: Vec<u8>,
+    pub is_differential: bool,
+    /// The unknowns in the order of their columns.
+    pub names: Vec<String>,
+    /// Which unknowns a misprint could have made, and where they are met first.
+    pub doubts: Vec<String>,
+}
+
+/// The bytes of the sheet that a text stands for.
 pub fn sheet_of(text: &str, is_differential: bool) -> Result<Vec<u8>, Unread> {
+    read(text, is_differential).map(|typed| typed.sheet)
+}
+
+/// Reads a text. It is taken for a differential one where it has primes or its first line says so, or where that is
+/// asked for.
+pub fn read(text: &str, is_differential: bool) -> Result<Typed, Unread> {
+    if text.len() > LONGEST {
+        return unread(Place { line: 1, column: 1 }, format!("a text has at most {LONGEST} bytes"));
+    }
     let words = words(text)?;
     let tells = |word: &Word| *word == Word::Sign('\'') || *word == Word::Name("derivatives".into());
-    let kind = if is_differential || words.iter().any(|(word, _)| tells(word)) {
-        Kind::Differential
-    } else {
-        Kind::Recurrence { at: None }
-    };
+    let is_differential = is_differential || words.iter().any(|(word, _)| tells(word));
+    let kind = if is_differential { Kind::Differential } else { Kind::Recurrence { at: None } };
     let mut reader = Reader::new(words, kind);
     let (heading, statements) = reader.all()?;
-    match kind {
-        Kind::Differential => differentials::sheet_of(&reader.names, &heading, &statements, reader.place()),
-        Kind::Recurrence { .. } => recurrence(&reader.names, &heading, &statements, reader.place()),
-    }
+    let names = reader.names.list();
+    let make = if is_differential { differentials::sheet_of } else { recurrence };
+    let sheet = make(&names, &heading, &statements, reader.place())?;
+    let equations = statements.iter().filter(|statement| statement.n0.is_none()).count();
+    let remains = |column: usize| occurring(&statements).any(|((_, c), _)| *c == column);
+    let doubts = reader.names.doubts(equations, remains);
+    Ok(Typed { sheet, is_differential, names, doubts })
+}
+
+/// The terms of all statements that have not cancelled.
+pub(crate) fn occurring(statements: &[Statement]) -> impl Iterator<Item = (&(i64, usize), &(Polynomial, Place))> {
+    statements.iter().flat_map(|s| &s.linear.terms).filter(|(_, (p, _))| !p.is_empty())
 }
 
 impl Reader {
     /// The first line, if there is one, and all equations and relations.
     fn all(&mut self) -> Result<(Heading, Vec<Statement>), Unread> {
-        let mut heading = Heading::default();
+        let mut heading = Heading { place: Place { line: 1, column: 1 }, ..Heading::default() };
         let mut statements = Vec::new();
         self.blank();
         if *self.word() == Word::Name("unknowns".into()) {
+            heading.place = self.place();
             self.pass();
-            heading = self.first_line()?;
+            self.first_line(&mut heading)?;
         }
         self.blank();
         while *self.word() != Word::End {
             statements.push(self.statement()?);
             if !matches!(self.word(), Word::LineEnd | Word::Sign(';') | Word::End) {
-                return unread(self.place(), format!("the equation could end here; {} does not fit", self.word()));
+                let reason = format!("the equation could end here; {} does not fit", self.word());
+                return unread(self.place(), reason + self.misplaced());
             }
             self.blank();
         }
@@ -94,70 +121,79 @@ impl Reader {
     }
 
     /// `unknowns x, y; l = 1; t = 0; order x, y` or `unknowns y; derivatives 2; powers 2`, behind its first word.
-    fn first_line(&mut self) -> Result<Heading, Unread> {
-        let mut heading = Heading::default();
-        self.list(|reader, name, place| {
-            let count = reader.names.len();
-            reader.column(name, place)?;
-            if reader.names.len() > count {
-                Ok(())
-            } else {
-                unread(place, format!("`{name}` stands here twice"))
-            }
-        })?;
-        self.is_closed = true;
+    fn first_line(&mut self, heading: &mut Heading) -> Result<(), Unread> {
+        self.list(|reader, name, place| reader.names.declare(name, place))?;
+        self.names.close();
         while self.has(';') {
-            self.part(&mut heading)?;
+            self.part(heading)?;
         }
         match self.word() {
-            Word::LineEnd | Word::End => Ok(heading),
+            Word::LineEnd | Word::End => Ok(()),
             word => unread(self.place(), format!("the first line could end here; {word} does not fit")),
         }
     }
 
-    /// One part of the first line.
+    /// One part of the first line, each at most once and each of the kind of the text.
     fn part(&mut self, heading: &mut Heading) -> Result<(), Unread> {
         let place = self.place();
-        let Word::Name(name) = self.word().clone() else {
-            return unread(
-                place,
-                format!("l, t, order, derivatives or powers is missing, here stands {}", self.word()),
-            );
+        let (parts, listed): (&[&str], _) = match self.kind {
+            Kind::Differential => (&["derivatives", "powers"], "derivatives or powers"),
+            Kind::Recurrence { .. } => (&["l", "t", "order"], "l, t or order"),
         };
+        let Word::Name(name) = self.word().clone() else {
+            return unread(place, format!("{listed} is missing, here stands {}", self.word()));
+        };
+        if !parts.contains(&&name[..]) {
+            let hint = "the first equation begins on a line of its own";
+            return unread(place, format!("`{name}` is not {listed}, which may stand in the first line; {hint}"));
+        }
         self.pass();
-        match name.as_str() {
-            "l" | "t" => {
-                self.want('=')?;
-                let number = Some(self.within(BLOCK, "a block is within ±64")?);
-                *(if name == "l" { &mut heading.l } else { &mut heading.t }) = number;
-                Ok(())
-            }
-            "derivatives" | "powers" => {
-                let number = Some(self.within(differentials::HIGHEST, "derivatives and powers are from 0 to 2")?);
-                *(if name == "powers" { &mut heading.powers } else { &mut heading.derivatives }) = number;
-                Ok(())
-            }
-            "order" if *self.word() == Word::Name("none".into()) => {
-                self.pass();
-                Ok(())
-            }
-            "order" => self.list(|reader, name, place| {
-                let column = reader.column(name, place)? as i64;
-                if heading.order.contains(&column) {
-                    return unread(place, format!("`{name}` stands in the order twice"));
-                }
-                heading.order.push(column);
-                Ok(())
-            }),
-            _ => unread(place, format!("`{name}` is none of l, t, order, derivatives and powers")),
+        let is_new = match name.as_str() {
+            "l" => heading.l.replace(self.block()?).is_none(),
+            "t" => heading.t.replace(self.block()?).is_none(),
+            "derivatives" => heading.derivatives.replace(self.up_to_highest()?).is_none(),
+            "powers" => heading.powers.replace(self.up_to_highest()?).is_none(),
+            _ => heading.order.replace(self.order()?).is_none(),
+        };
+        if is_new {
+            Ok(())
+        } else {
+            unread(place, format!("`{name}` stands in the first line twice"))
         }
     }
 
-    /// A number within ± a bound.
-    fn within(&mut self, bound: i64, wanted: &str) -> Result<i64, Unread> {
+    fn block(&mut self) -> Result<i64, Unread> {
+        self.want('=')?;
+        self.within(-BLOCK, BLOCK, "a block is within ±64")
+    }
+
+    fn up_to_highest(&mut self) -> Result<i64, Unread> {
+        self.within(0, differentials::HIGHEST, "derivatives and powers are from 0 to 2")
+    }
+
+    /// `none`, or the columns of the order.
+    fn order(&mut self) -> Result<Vec<i64>, Unread> {
+        let mut order = Vec::new();
+        if *self.word() == Word::Name("none".into()) {
+            self.pass();
+            return Ok(order);
+        }
+        self.list(|reader, name, place| {
+            let column = reader.names.known(name, place)? as i64;
+            if order.contains(&column) {
+                return unread(place, format!("`{name}` stands in the order twice"));
+            }
+            order.push(column);
+            Ok(())
+        })?;
+        Ok(order)
+    }
+
+    /// A number from one to another.
+    fn within(&mut self, least: i64, most: i64, wanted: &str) -> Result<i64, Unread> {
         let place = self.place();
         match i64::try_from(self.integer()?) {
-            Ok(number) if number.abs() <= bound => Ok(number),
+            Ok(number) if (least..=most).contains(&number) => Ok(number),
             _ => unread(place, wanted),
         }
     }
@@ -166,34 +202,43 @@ impl Reader {
     fn statement(&mut self) -> Result<Statement, Unread> {
         let place = self.place();
         let n0 = self.relation_index()?;
-        if let (Kind::Recurrence { at }, true) = (&mut self.kind, n0.is_some()) {
+        if let Kind::Recurrence { at } = &mut self.kind {
             *at = n0;
         }
-        let mut linear = self.sum()?;
+        let begins_with_0 = *self.word() == Word::Number(0) && *self.ahead(1) == Word::Sign('=');
+        let unknowns = self.names.count();
+        let left = self.sum()?;
         let equals = self.place();
         self.want('=')?;
         let right = self.sum()?;
-        if let Kind::Recurrence { at } = &mut self.kind {
-            *at = None;
+        let linear = fitting(left.plus(right, -1), equals)?;
+        if self.names.count() == unknowns && !begins_with_0 {
+            let reason = "an equation without an unknown: leave it out, or write it as 0 = ..";
+            return unread(place, format!("{reason}; {} is the variable", self.names.variable()));
         }
-        if linear.add(right, -1).is_none() {
-            return unread(equals, "this grows past every limit");
+        if self.names.count() > unknowns && linear.terms.values().all(|(p, _)| p.is_empty()) {
+            return unread(place, "every unknown of this equation cancels: leave it out, or write it as 0 = ..");
         }
         Ok(Statement { n0, linear, place })
     }
 
     fn relation_index(&mut self) -> Result<Option<i64>, Unread> {
-        let begins = *self.word() == Word::Name("at".into()) && *self.ahead(1) == Word::Name("n".into());
-        if !begins {
+        if *self.word() != Word::Name("at".into()) {
             return Ok(None);
         }
         if self.kind == Kind::Differential {
-            return unread(self.place(), "a differential sheet has no relations");
+            let hint = "starting values are given to `wurgalm series --start`";
+            return unread(self.place(), format!("a differential sheet has no relations; {hint}"));
         }
         self.pass();
+        if *self.word() != Word::Name("n".into()) {
+            let reason = format!("`n` is missing, here stands {}: a relation begins with at n = NUMBER:", self.word());
+            return unread(self.place(), reason);
+        }
         self.pass();
         self.want('=')?;
-        let n0 = self.within(C as i64, "the index of a relation is within ±268,435,455")?;
+        let most = C as i64;
+        let n0 = self.within(-most, most, "the index of a relation is within ±268,435,455")?;
         self.want(':')?;
         Ok(Some(n0))
     }
@@ -204,7 +249,7 @@ fn coefficients(polynomial: &Polynomial, place: Place) -> Result<Vec<i64>, Unrea
     if polynomial.len() > DEGREE + 1 {
         return unread(place, format!("the power {} of n is past 15", polynomial.len() - 1));
     }
-    match polynomial.iter().find(|a| a.abs() > C) {
+    match polynomial.iter().find(|a| a.unsigned_abs() > C as u128) {
         Some(a) => unread(place, format!("the coefficient {a} is past ±268,435,455")),
         None => Ok(polynomial.iter().map(|&a| a as i64).collect()),
     }
@@ -212,15 +257,11 @@ fn coefficients(polynomial: &Polynomial, place: Place) -> Result<Vec<i64>, Unrea
 
 /// Highest and lowest block: those of the first line, or those that occur.
 fn blocks(heading: &Heading, statements: &[Statement]) -> Result<(i64, i64), Unread> {
-    let occurring = || statements.iter().flat_map(|s| &s.linear.terms).filter(|(_, (p, _))| !p.is_empty());
-    let l = heading.l.or_else(|| occurring().map(|((s, _), _)| *s).max());
-    let t = heading.t.or_else(|| occurring().map(|((s, _), _)| *s).min());
+    let l = heading.l.or_else(|| occurring(statements).map(|((s, _), _)| *s).max());
+    let t = heading.t.or_else(|| occurring(statements).map(|((s, _), _)| *s).min());
     let l = l.or(t).unwrap_or(0);
     let t = t.unwrap_or(l);
-    for ((s, _), (_, place)) in occurring() {
-        if s.abs() > BLOCK {
-            return unread(*place, format!("n{s:+}: an index is at most 64 away from n"));
-        }
+    for ((s, _), (_, place)) in occurring(statements) {
         if !(t..=l).contains(s) {
             return unread(*place, format!("n{s:+} is outside the first line's l = {l} and t = {t}"));
         }
@@ -232,8 +273,7 @@ fn blocks(heading: &Heading, statements: &[Statement]) -> Result<(i64, i64), Unr
         }
     }
     if !(0..=SPAN).contains(&(l - t)) {
-        let place = Place { line: 1, column: 1 };
-        return unread(place, format!("l = {l} and t = {t}: l is at least t and at most t + 4"));
+        return unread(heading.place, format!("l = {l} and t = {t}: l is at least t and at most t + 4"));
     }
     Ok((l, t))
 }
@@ -243,7 +283,7 @@ fn recurrence(names: &[String], heading: &Heading, statements: &[Statement], end
         return unread(end, "there is no unknown: write an equation, or a first line with `unknowns x`");
     }
     let (l, t) = blocks(heading, statements)?;
-    let mut builder = System::builder(names.len(), l, t).order(&heading.order);
+    let mut builder = System::builder(names.len(), l, t).order(heading.order.as_deref().unwrap_or_default());
     let mut counts = [0, 0];
     for Statement { n0, linear, place } in statements {
         let kind = usize::from(n0.is_some());
@@ -262,5 +302,5 @@ fn recurrence(names: &[String], heading: &Heading, statements: &[Statement], end
         };
     }
     let written = builder.build().and_then(|system| system.to_sheet());
-    written.or_else(|refusal| unread(Place { line: 1, column: 1 }, refusal.to_string()))
+    written.or_else(|refusal| unread(heading.place, refusal.to_string()))
 }

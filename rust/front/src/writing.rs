@@ -1,4 +1,5 @@
-//! Systems as text: polynomials, equations, relations, and the first line, in the form that [`crate::typing`] reads back.
+//! Systems as text: polynomials, equations, relations, and the first line, in the form that [`crate::typing`] reads
+//! back.
 
 use crate::tokens::{is_name, RESERVED};
 use std::fmt::Write;
@@ -81,10 +82,11 @@ pub fn equation(equation: Equation, names: &[String]) -> String {
     format!("{left} = {}", polynomial(equation.right(), "n"))
 }
 
-/// A relation. Where its equation has numbers for coefficients, every index is worked out and negative terms stand on the other side.
+/// A relation. Where its equation has terms, with numbers for coefficients, every index is worked out and negative
+/// terms stand on the other side.
 pub fn relation(n0: i64, row: Equation, names: &[String]) -> String {
     let has_numbers = row.terms().all(|(_, _, p)| p.len() == 1) && row.right().len() <= 1;
-    if !has_numbers {
+    if !has_numbers || row.terms().next().is_none() {
         return format!("at n = {n0}: {}", equation(row, names));
     }
     let (mut left, mut right) = (String::new(), String::new());
