@@ -33,7 +33,8 @@ pub fn parting(left: usize) -> u8
 // A count of 0 to `most` things, read in general.
 fn any_count_at(bytes: &[u8], at: usize, most: i64) -> tokens::NumberRead
     requires { ⌜ at ≤ length (now bytes) ⌝ }
-    ensures { λ r. ⌜ Answers (now (bytes .entry)) (r .refusal) (r .value) (r .at) (field (between (pos 0) most) afterCount (drop at (now (bytes .entry)))) ⌝ }
+    ensures { λ r. ⌜ Answers (now (bytes .entry)) (r .refusal) (r .value) (r .at)
+        (field (between (pos 0) most) afterCount (drop at (now (bytes .entry)))) ⌝ }
 {
     let n = tokens::number_at(bytes, at);
     let judgement = tokens::judge_between(0, most, n.value);
@@ -44,7 +45,8 @@ fn any_count_at(bytes: &[u8], at: usize, most: i64) -> tokens::NumberRead
 // A count of 0 to `most` things.
 pub fn count_at(bytes: &[u8], at: usize, most: i64) -> tokens::NumberRead
     requires { ⌜ at ≤ length (now bytes) ⌝ }
-    ensures { λ r. ⌜ Answers (now (bytes .entry)) (r .refusal) (r .value) (r .at) (field (between (pos 0) most) afterCount (drop at (now (bytes .entry)))) ⌝ }
+    ensures { λ r. ⌜ Answers (now (bytes .entry)) (r .refusal) (r .value) (r .at)
+        (field (between (pos 0) most) afterCount (drop at (now (bytes .entry)))) ⌝ }
 {
     let Straight::Number(d) = tokens::digit_at(bytes, at, 32) else {
         return any_count_at(bytes, at, most);

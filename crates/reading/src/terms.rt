@@ -100,7 +100,8 @@ fn column_at(
 // A coefficient after which `left` others are to come, of more than one digit. What `digits_at` reads is not 0.
 fn long_coefficient_at(bytes: &[u8], at: usize, left: usize, separator: u8) -> tokens::NumberRead
     requires { ⌜ at ≤ length (now bytes) ⌝ }
-    ensures { λ r. ⌜ Answers (now (bytes .entry)) (r .refusal) (r .value) (r .at) (field (judgeCoefficient left) (always separator) (drop at (now (bytes .entry)))) ⌝ }
+    ensures { λ r. ⌜ Answers (now (bytes .entry)) (r .refusal) (r .value) (r .at)
+        (field (judgeCoefficient left) (always separator) (drop at (now (bytes .entry)))) ⌝ }
 {
     let Straight::Number(d) = tokens::digits_at(bytes, at, separator) else {
         let n = tokens::number_at(bytes, at);

@@ -32,10 +32,10 @@ use mir.Val.{SFits, ofZ, toZ}
 use Rattle.lists.specs.Tests.{both-true, every}
 use Rattle.algebra.specs.Integers.{natAbs-negℤ}
 use Rattle.rules.specs.Numbers.{minus, isSeparator, isDigit, startsRight, valueFrom, got, fault, thenRead, field}
-use Rattle.tokens.specs.Tokens.{DigitsStart, DigitsTo, digits-signed, digits-unsigned, digits-begin, digits-go-on, digit-bounds}
-use Rattle.tokens.specs.Tokens.{slice-next, starts-nonzero, starts-zero}
-use Rattle.tokens.specs.Fields.{Answers, NumberAt, Unread, readOf, readNumber, gives, refuses, closing, number-whole, closing-judged}
-use Rattle.tokens.specs.Fields.{closing-right, answers-field}
+use Rattle.tokens.specs.Tokens.{DigitsStart, DigitsTo, digits-signed, digits-unsigned, digits-begin, digits-go-on}
+use Rattle.tokens.specs.Tokens.{digit-bounds, slice-next, starts-nonzero, starts-zero}
+use Rattle.tokens.specs.Fields.{Answers, NumberAt, Unread, readOf, readNumber, gives, refuses, closing}
+use Rattle.tokens.specs.Fields.{number-whole, closing-judged, closing-right, answers-field}
 use Rattle.tokens.specs.declared.Found.{Found}
 use Rattle.tokens.specs.declared.Straight.{Straight}
 use Rattle.tokens.specs.declared.Straight.the-variants.{Number, Other}
@@ -105,6 +105,13 @@ unfoldable pub front : List ℕ → ℕ → ℕ → List ℕ
 front bytes i zero = []
 front bytes i (suc k) = cond (isDigit (getD bytes i 0)) ((getD bytes i 0 - 48) ∷ front bytes (i + 1) k) []
 
+-- Where the digits from `from` on end, at most k, and their value.
+abbrev pub digitsEnd : List ℕ → ℕ → ℕ → ℕ
+digitsEnd bytes from k = from + length (front bytes from k)
+
+abbrev pub digitsSize : List ℕ → ℕ → ℕ → ℕ
+digitsSize bytes from k = valueFrom 0 (slice from (digitsEnd bytes from k) bytes)
+
 -- The value of digits of a base, behind those of the value v.
 unfoldable pub valued : ℕ → ℕ → List ℕ → ℕ
 valued c v [] = v
@@ -116,11 +123,13 @@ module _ (bytes : List ℕ) where
   front-short zero i = omega arith
   front-short (suc k) i = by (isDigit (getD bytes i 0)) (front-short k (i + 1))
     where
-      by : (t : Bool) → length (front bytes (i + 1) k) ≤ k → length (cond t ((getD bytes i 0 - 48) ∷ front bytes (i + 1) k) []) ≤ suc k
+      by : (t : Bool) → length (front bytes (i + 1) k) ≤ k
+          → length (cond t ((getD bytes i 0 - 48) ∷ front bytes (i + 1) k) []) ≤ suc k
       by true h = omega arith
       by false h = omega arith
 
-  pub front-digit : (k i : ℕ) → isDigit (getD bytes i 0) ≡ true → length (front bytes i (suc k)) ≡ suc (length (front bytes (i + 1) k))
+  pub front-digit : (k i : ℕ) → isDigit (getD bytes i 0) ≡ true
+      → length (front bytes i (suc k)) ≡ suc (length (front bytes (i + 1) k))
   unfolding front
   front-digit k i e = ap (λ t. length (cond t ((getD bytes i 0 - 48) ∷ front bytes (i + 1) k) [])) e
 
@@ -133,20 +142,24 @@ module _ (bytes : List ℕ) where
   front-some from (suc k) h e = omega (arith, front-digit k from e)
 
   -- Where they are fewer than k, no digit follows.
-  pub front-next : (k i : ℕ) → length (front bytes i k) < k → isDigit (getD bytes (i + length (front bytes i k)) 0) ≡ false
+  pub front-next : (k i : ℕ) → length (front bytes i k) < k
+      → isDigit (getD bytes (i + length (front bytes i k)) 0) ≡ false
   front-next zero i h = absurd (omega arith)
   front-next (suc k) i h = by (isDigit (getD bytes i 0)) refl (front-next k (i + 1))
     where
       by : (t : Bool) → isDigit (getD bytes i 0) ≡ t
-          → (length (front bytes (i + 1) k) < k → isDigit (getD bytes (i + 1 + length (front bytes (i + 1) k)) 0) ≡ false)
+          → (length (front bytes (i + 1) k) < k
+          → isDigit (getD bytes (i + 1 + length (front bytes (i + 1) k)) 0) ≡ false)
           → isDigit (getD bytes (i + length (front bytes i (suc k))) 0) ≡ false
       by true e rest =
-          ap (λ n. isDigit (getD bytes n 0)) (omega (arith, front-digit k i e)) ∙ rest (omega (arith, front-digit k i e))
+          let one = front-digit k i e in
+          ap (λ n. isDigit (getD bytes n 0)) (omega arith) ∙ rest (omega arith)
       by false e rest = ap (λ n. isDigit (getD bytes n 0)) (omega (arith, front-none k i e)) ∙ e
 
   -- Digits that no other follows, or that are k, are those in front.
-  pub front-end : (k from end : ℕ) → from ≤ end → end ≤ length bytes → every isDigit (slice from end bytes) ≡ true → end ≤ from + k
-      → (end < from + k → isDigit (getD bytes end 0) ≡ false) → end ≡ from + length (front bytes from k)
+  pub front-end : (k from end : ℕ) → from ≤ end → end ≤ length bytes → every isDigit (slice from end bytes) ≡ true
+      → end ≤ from + k → (end < from + k → isDigit (getD bytes end 0) ≡ false)
+      → end ≡ from + length (front bytes from k)
   unfolding front every
   front-end zero from end begun within all most stop = omega arith
   front-end (suc k) from end begun within all most stop =
@@ -154,12 +167,14 @@ module _ (bytes : List ℕ) where
       (λ some digits. front-end k (from + 1) end (omega arith) within digits (omega arith) (λ h. stop (omega arith)))
     where
       by : Dec (from ≡ end)
-          → (from < end → every isDigit (slice (from + 1) end bytes) ≡ true → end ≡ from + 1 + length (front bytes (from + 1) k))
+          → (from < end → every isDigit (slice (from + 1) end bytes) ≡ true
+          → end ≡ from + 1 + length (front bytes (from + 1) k))
           → end ≡ from + length (front bytes from (suc k))
       by (yes e) more = omega (arith, front-none k from (ap (λ n. isDigit (getD bytes n 0)) e ∙ stop (omega arith)))
       by (no n) more =
           let some : from < end = lt-of-le-ne begun n in
-          let both = both-true (isDigit (getD bytes from 0)) _ (ap (every isDigit) (sym (slice-next bytes from end some within)) ∙ all) in
+          let part = slice-next bytes from end some within in
+          let both = both-true (isDigit (getD bytes from 0)) _ (ap (every isDigit) (sym part) ∙ all) in
           omega (arith, front-digit k from (both .0), more some (both .1))
 
   -- One digit and then one more, or what stops them.
@@ -187,16 +202,17 @@ module _ (bytes : List ℕ) where
           → DigitsTo bytes from (i + length (cond t ((getD bytes i 0 - 48) ∷ front bytes (i + 1) k) []))
           (valued 10 v (cond t ((getD bytes i 0 - 48) ∷ front bytes (i + 1) k) []))
       by true e rest =
-          subst (λ n. DigitsTo bytes from n (valued 10 (10 * v + (getD bytes i 0 - 48)) (front bytes (i + 1) k))) (omega arith)
-          (rest (10 * v + (getD bytes i 0 - 48)) (digits-go-on bytes from i v read (omega arith) (omega arith) e))
+          let w = 10 * v + (getD bytes i 0 - 48) in
+          subst (λ n. DigitsTo bytes from n (valued 10 w (front bytes (i + 1) k))) (omega arith)
+          (rest w (digits-go-on bytes from i v read (omega arith) (omega arith) e))
       by false e rest = subst (λ n. DigitsTo bytes from n v) (omega arith) read
 
   -- All digits in front of k bytes, at most ten.
   digits-all : (from k : ℕ) → from + k ≤ length bytes → k ≤ 10
-      → DigitsTo bytes from (from + length (front bytes from k)) (valueFrom 0 (slice from (from + length (front bytes from k)) bytes))
+      → DigitsTo bytes from (digitsEnd bytes from k) (digitsSize bytes from k)
   digits-all from k h short =
       let read = digits-front from k from 0 (digits-begin bytes from (omega arith)) h (omega arith) in
-      subst (λ v. DigitsTo bytes from (from + length (front bytes from k)) v) (sym (read .value)) read
+      subst (λ v. DigitsTo bytes from (digitsEnd bytes from k) v) (sym (read .value)) read
 
 -- ---- the number that digits are
 
@@ -254,8 +270,8 @@ pub record Judged (v : ℤ) (next judgement refusal : ℕ) (value : ℤ) (after 
   pub number : value ≡ cond (eqb judgement 0) v (pos 0)
   pub place : after ≡ cond (eqb judgement 0) next 0
 
-module _ (judge follow : ℤ → ℕ) {bytes : List ℕ} {at separator : ℕ} {v : ℤ} {next : ℕ} (d : Closed bytes at separator v next)
-    (fits : SFits w64 v) where
+module _ (judge follow : ℤ → ℕ) {bytes : List ℕ} {at separator : ℕ} {v : ℤ} {next : ℕ}
+    (d : Closed bytes at separator v next) (fits : SFits w64 v) where
   closed-number : NumberAt bytes at 0 v (d .end)
   unfolding readOf
   closed-number = record { answer = sym (d .number); separator = λ _. d .inside; unread = λ h. absurd (h refl) }
@@ -263,23 +279,26 @@ module _ (judge follow : ℤ → ℕ) {bytes : List ℕ} {at separator : ℕ} {v
   -- Such a number, judged, is a field.
   pub closed-field : {judgement refusal : ℕ} {value : ℤ} {after : ℕ} → judgement ≡ judge (toZ w64 (ofZ w64 v))
       → separator ≡ follow (toZ w64 (ofZ w64 v))
-      → Judged v next judgement refusal value after → Answers bytes refusal value after (field judge follow (drop at bytes))
+      → Judged v next judgement refusal value after
+      → Answers bytes refusal value after (field judge follow (drop at bytes))
   closed-field {judgement} {refusal} {value} {after} j s r =
       answers-field judge follow {at = at} {next = d .end} closed-number fits j s (by (ℕ-discrete judgement 0))
     where
-      by : Dec (judgement ≡ 0) → Answers bytes refusal value after (thenRead (readOf bytes 0 v (d .end)) (closing judgement separator))
+      by : Dec (judgement ≡ 0)
+          → Answers bytes refusal value after (thenRead (readOf bytes 0 v (d .end)) (closing judgement separator))
       by (yes z) =
           let t = eq-eqb judgement 0 z in
           rw (r .refused, r .number, r .place, t, z)
           (gives refl
-          (closing-right bytes 0 v (d .end) 0 separator refl refl (d .inside) (d .mark) ∙ ap (λ k. got v (drop k bytes)) (sym (d .behind)))
+          (closing-right bytes 0 v (d .end) 0 separator refl refl (d .inside) (d .mark)
+          ∙ ap (λ k. got v (drop k bytes)) (sym (d .behind)))
           (omega (arith, d .behind, d .inside)))
       by (no n) =
           refuses n (closing-judged bytes 0 v (d .end) judgement separator refl n)
           (r .refused, r .place ∙ ap (λ t. cond t next 0) (ne-eqb judgement 0 n))
 
-pub judged-unread : {v : ℤ} {next judgement refusal : ℕ} {value : ℤ} {after : ℕ} → Judged v next judgement refusal value after
-    → Unread refusal value after
+pub judged-unread : {v : ℤ} {next judgement refusal : ℕ} {value : ℤ} {after : ℕ}
+    → Judged v next judgement refusal value after → Unread refusal value after
 judged-unread {v} {next} {judgement} r h =
     let t = ne-eqb judgement 0 (λ z. h (r .refused ∙ z)) in
     (r .number ∙ ap (λ t. cond t v (pos 0)) t, r .place ∙ ap (λ t. cond t next 0) t)
@@ -290,14 +309,17 @@ judged-unread {v} {next} {judgement} r h =
 unfoldable pub digitsFrom : List ℕ → ℕ → ℕ
 digitsFrom bytes at = cond (eqb (getD bytes at 0) minus) (at + 1) at
 
--- What is found straight: a number by its sign, the size of its digits and the place after it, each told by where the digits begin, if a test
--- passes; otherwise nothing.
+-- A number by its sign and its size.
+abbrev signedBy : Bool → ℕ → ℤ
+signedBy sign size = cond sign (negℤ (pos size)) (pos size)
+
+-- What is found straight: a number by its sign and its size, and the place after it, if a test passes; otherwise nothing.
+-- Test, size and place are told by where the digits begin.
 unfoldable pub foundAt : List ℕ → ℕ → (ℕ → Bool) → (ℕ → ℕ) → (ℕ → ℕ) → Straight
 unfolding digitsFrom
 foundAt bytes at test size next =
     let from = digitsFrom bytes at in
-    cond (test from)
-    (Number (record { value = cond (ltb at from) (negℤ (pos (size from))) (pos (size from)); at = next from })) Other
+    cond (test from) (Number (record { value = signedBy (ltb at from) (size from); at = next from })) Other
 
 -- One digit: three bytes are left, the separator that was asked for stands behind it, and a 0 has no sign.
 unfoldable pub isDigitAt : List ℕ → ℕ → ℕ → ℕ → Bool
@@ -310,21 +332,18 @@ unfolding foundAt isDigitAt
 digitAt bytes at separator =
     foundAt bytes at (λ from. isDigitAt bytes at from separator) (λ from. getD bytes from 0 - 48) (λ from. from + 1 + 1)
 
--- Where the digits from `from` on end, at most k.
-abbrev pub digitsEnd : List ℕ → ℕ → ℕ → ℕ
-digitsEnd bytes from k = from + length (front bytes from k)
-
--- Digits of which the first is not 0, within ten bytes with their sign: twelve are left, and the separator that was asked for stands behind.
+-- Digits of which the first is not 0, within ten bytes with their sign: twelve bytes are left, and the separator that
+-- was asked for stands behind.
 unfoldable pub areDigitsAt : List ℕ → ℕ → ℕ → ℕ → Bool
 areDigitsAt bytes at from separator =
-    leb 12 (length bytes - at) && isSeparator separator && not (eqb (getD bytes from 0) 48) && isDigit (getD bytes from 0)
-    && eqb (getD bytes (digitsEnd bytes from (at + 10 - from)) 0) separator
+    leb 12 (length bytes - at) && isSeparator separator && not (eqb (getD bytes from 0) 48)
+    && isDigit (getD bytes from 0) && eqb (getD bytes (digitsEnd bytes from (at + 10 - from)) 0) separator
 
 unfoldable pub digitsAt : List ℕ → ℕ → ℕ → Straight
 unfolding foundAt areDigitsAt valueFrom
 digitsAt bytes at separator =
-    foundAt bytes at (λ from. areDigitsAt bytes at from separator)
-    (λ from. valueFrom 0 (slice from (digitsEnd bytes from (at + 10 - from)) bytes)) (λ from. digitsEnd bytes from (at + 10 - from) + 1)
+    foundAt bytes at (λ from. areDigitsAt bytes at from separator) (λ from. digitsSize bytes from (at + 10 - from))
+    (λ from. digitsEnd bytes from (at + 10 - from) + 1)
 
 -- Eight to ten digits of which the first is not 0: twelve bytes are left, and a separator stands behind.
 unfoldable pub isLongAt : List ℕ → ℕ → ℕ → Bool
@@ -336,39 +355,40 @@ isLongAt bytes at from =
 unfoldable pub longAt : List ℕ → ℕ → Straight
 unfolding foundAt isLongAt valueFrom
 longAt bytes at =
-    foundAt bytes at (λ from. isLongAt bytes at from) (λ from. valueFrom 0 (slice from (digitsEnd bytes from 10) bytes))
+    foundAt bytes at (λ from. isLongAt bytes at from) (λ from. digitsSize bytes from 10)
     (λ from. digitsEnd bytes from 10)
 
 module _ (bytes : List ℕ) (at : ℕ) (test : ℕ → Bool) (size next : ℕ → ℕ) where
   abbrev foundFrom : ℕ → Bool → Straight
-  foundFrom from t = cond t (Number (record { value = cond (ltb at from) (negℤ (pos (size from))) (pos (size from)); at = next from })) Other
+  foundFrom from t = cond t (Number (record { value = signedBy (ltb at from) (size from); at = next from })) Other
 
   module _ {from : ℕ} (e : from ≡ digitsFrom bytes at) where
     found-none : test from ≡ false → Other ≡ foundAt bytes at test size next
     unfolding foundAt
     found-none f = sym (ap (foundFrom from) f) ∙ ap (λ k. foundFrom k (test k)) e
 
-    found-number : {v : ℤ} {place : ℕ} → test from ≡ true → v ≡ cond (ltb at from) (negℤ (pos (size from))) (pos (size from))
+    found-number : {v : ℤ} {place : ℕ} → test from ≡ true → v ≡ signedBy (ltb at from) (size from)
         → place ≡ next from → Number (record { value = v; at = place }) ≡ foundAt bytes at test size next
     unfolding foundAt
     found-number f g h =
-        ap₂ (λ v k. Number (record { value = v; at = k })) g h ∙ sym (ap (foundFrom from) f) ∙ ap (λ k. foundFrom k (test k)) e
+        ap₂ (λ v k. Number (record { value = v; at = k })) g h ∙ sym (ap (foundFrom from) f)
+        ∙ ap (λ k. foundFrom k (test k)) e
 
   -- What was found, where something was.
   found-is : {d : Found} → foundAt bytes at test size next ≡ Number d
       → (test (digitsFrom bytes at) ≡ true)
-      × (cond (ltb at (digitsFrom bytes at)) (negℤ (pos (size (digitsFrom bytes at)))) (pos (size (digitsFrom bytes at))) ≡ d .value)
+      × (signedBy (ltb at (digitsFrom bytes at)) (size (digitsFrom bytes at)) ≡ d .value)
       × (next (digitsFrom bytes at) ≡ d .at)
   unfolding foundAt
   found-is {d} e = by (test (digitsFrom bytes at)) e
     where
       by : (t : Bool) → foundFrom (digitsFrom bytes at) t ≡ Number d
           → (t ≡ true)
-          × (cond (ltb at (digitsFrom bytes at)) (negℤ (pos (size (digitsFrom bytes at)))) (pos (size (digitsFrom bytes at))) ≡ d .value)
+          × (signedBy (ltb at (digitsFrom bytes at)) (size (digitsFrom bytes at)) ≡ d .value)
           × (next (digitsFrom bytes at) ≡ d .at)
       by true f =
           let from = digitsFrom bytes at in
-          let same : record { value = cond (ltb at from) (negℤ (pos (size from))) (pos (size from)); at = next from } ≡ d = cc in
+          let same : record { value = signedBy (ltb at from) (size from); at = next from } ≡ d = cc in
           (refl, ap (λ n. n .value) same, ap (λ n. n .at) same)
       by false f = let z : _≡_ {A = ℕ} 0 1 = cc in absurd (omega arith)
 
@@ -377,37 +397,46 @@ module _ (bytes : List ℕ) (at : ℕ) {from : ℕ} (e : from ≡ digitsFrom byt
   module _ (separator : ℕ) where
     pub digit-none : isDigitAt bytes at from separator ≡ false → Other ≡ digitAt bytes at separator
     unfolding digitAt
-    digit-none = found-none bytes at (λ from. isDigitAt bytes at from separator) (λ from. getD bytes from 0 - 48) (λ from. from + 1 + 1) e
+    digit-none =
+        found-none bytes at (λ from. isDigitAt bytes at from separator) (λ from. getD bytes from 0 - 48)
+        (λ from. from + 1 + 1) e
 
     pub digit-found : {v : ℤ} {place : ℕ} → isDigitAt bytes at from separator ≡ true
-        → v ≡ cond (ltb at from) (negℤ (pos (getD bytes from 0 - 48))) (pos (getD bytes from 0 - 48))
-        → place ≡ from + 1 + 1 → Number (record { value = v; at = place }) ≡ digitAt bytes at separator
+        → v ≡ signedBy (ltb at from) (getD bytes from 0 - 48) → place ≡ from + 1 + 1
+        → Number (record { value = v; at = place }) ≡ digitAt bytes at separator
     unfolding digitAt
-    digit-found = found-number bytes at (λ from. isDigitAt bytes at from separator) (λ from. getD bytes from 0 - 48) (λ from. from + 1 + 1) e
+    digit-found =
+        found-number bytes at (λ from. isDigitAt bytes at from separator) (λ from. getD bytes from 0 - 48)
+        (λ from. from + 1 + 1) e
 
     pub digits-none : areDigitsAt bytes at from separator ≡ false → Other ≡ digitsAt bytes at separator
     unfolding digitsAt
-    digits-none = found-none bytes at (λ from. areDigitsAt bytes at from separator)
-        (λ from. valueFrom 0 (slice from (digitsEnd bytes from (at + 10 - from)) bytes)) (λ from. digitsEnd bytes from (at + 10 - from) + 1) e
+    digits-none =
+        found-none bytes at (λ from. areDigitsAt bytes at from separator)
+        (λ from. digitsSize bytes from (at + 10 - from)) (λ from. digitsEnd bytes from (at + 10 - from) + 1) e
 
     pub digits-found : {v : ℤ} {place : ℕ} → areDigitsAt bytes at from separator ≡ true
-        → v ≡ cond (ltb at from) (negℤ (pos (valueFrom 0 (slice from (digitsEnd bytes from (at + 10 - from)) bytes)))) (pos (valueFrom 0 (slice from (digitsEnd bytes from (at + 10 - from)) bytes)))
-        → place ≡ digitsEnd bytes from (at + 10 - from) + 1 → Number (record { value = v; at = place }) ≡ digitsAt bytes at separator
+        → v ≡ signedBy (ltb at from) (digitsSize bytes from (at + 10 - from))
+        → place ≡ digitsEnd bytes from (at + 10 - from) + 1
+        → Number (record { value = v; at = place }) ≡ digitsAt bytes at separator
     unfolding digitsAt
-    digits-found = found-number bytes at (λ from. areDigitsAt bytes at from separator)
-        (λ from. valueFrom 0 (slice from (digitsEnd bytes from (at + 10 - from)) bytes)) (λ from. digitsEnd bytes from (at + 10 - from) + 1) e
+    digits-found =
+        found-number bytes at (λ from. areDigitsAt bytes at from separator)
+        (λ from. digitsSize bytes from (at + 10 - from)) (λ from. digitsEnd bytes from (at + 10 - from) + 1) e
 
   pub long-none : isLongAt bytes at from ≡ false → Other ≡ longAt bytes at
   unfolding longAt
-  long-none = found-none bytes at (λ from. isLongAt bytes at from)
-      (λ from. valueFrom 0 (slice from (digitsEnd bytes from 10) bytes)) (λ from. digitsEnd bytes from 10) e
+  long-none =
+      found-none bytes at (λ from. isLongAt bytes at from) (λ from. digitsSize bytes from 10)
+      (λ from. digitsEnd bytes from 10) e
 
   pub long-found : {v : ℤ} {place : ℕ} → isLongAt bytes at from ≡ true
-      → v ≡ cond (ltb at from) (negℤ (pos (valueFrom 0 (slice from (digitsEnd bytes from 10) bytes)))) (pos (valueFrom 0 (slice from (digitsEnd bytes from 10) bytes)))
-      → place ≡ digitsEnd bytes from 10 → Number (record { value = v; at = place }) ≡ longAt bytes at
+      → v ≡ signedBy (ltb at from) (digitsSize bytes from 10) → place ≡ digitsEnd bytes from 10
+      → Number (record { value = v; at = place }) ≡ longAt bytes at
   unfolding longAt
-  long-found = found-number bytes at (λ from. isLongAt bytes at from)
-      (λ from. valueFrom 0 (slice from (digitsEnd bytes from 10) bytes)) (λ from. digitsEnd bytes from 10) e
+  long-found =
+      found-number bytes at (λ from. isLongAt bytes at from) (λ from. digitsSize bytes from 10)
+      (λ from. digitsEnd bytes from 10) e
 
 pub start-at : (bytes : List ℕ) (at : ℕ) → at < length bytes → DigitsStart bytes at (digitsFrom bytes at)
 unfolding digitsFrom
@@ -426,11 +455,13 @@ start-near bytes at = by (eqb (getD bytes at 0) minus)
     by false = (omega arith, omega arith)
 
 module _ {bytes : List ℕ} {at : ℕ} {d : Found} where
-  pub digit-closed : {separator : ℕ} → digitAt bytes at separator ≡ Number d → Closed bytes at separator (d .value) (d .at)
+  pub digit-closed : {separator : ℕ} → digitAt bytes at separator ≡ Number d
+      → Closed bytes at separator (d .value) (d .at)
   unfolding digitAt isDigitAt
   digit-closed {separator} e =
       let from = digitsFrom bytes at in
-      let f = found-is bytes at (λ from. isDigitAt bytes at from separator) (λ from. getD bytes from 0 - 48) (λ from. from + 1 + 1) e in
+      let f = found-is bytes at (λ from. isDigitAt bytes at from separator) (λ from. getD bytes from 0 - 48)
+      (λ from. from + 1 + 1) e in
       let t = both-true _ _ (f .0) in
       let u = both-true _ _ (t .0) in
       let v = both-true _ _ (u .0) in
@@ -443,8 +474,8 @@ module _ {bytes : List ℕ} {at : ℕ} {d : Found} where
         behind = sym (f .2);
         inside = omega arith;
         number =
-            whole-number (start-at bytes at (omega arith)) (one-read bytes from (omega arith) (u .1)) (omega arith) (omega arith)
-            (ap isSeparator mark ∙ v .1) (digit-right bytes at from (omega arith) (leb-true _ _ (t .1)))
+            whole-number (start-at bytes at (omega arith)) (one-read bytes from (omega arith) (u .1)) (omega arith)
+            (omega arith) (ap isSeparator mark ∙ v .1) (digit-right bytes at from (omega arith) (leb-true _ _ (t .1)))
             ∙ ap (λ n. got n (drop (from + 1) bytes)) (f .1);
         mark = mark;
       }
@@ -457,7 +488,7 @@ module _ {bytes : List ℕ} {at : ℕ} {d : Found} where
       let from = digitsFrom bytes at in
       let end = digitsEnd bytes from (at + 10 - from) in
       let f = found-is bytes at (λ from. areDigitsAt bytes at from separator)
-      (λ from. valueFrom 0 (slice from (digitsEnd bytes from (at + 10 - from)) bytes)) (λ from. digitsEnd bytes from (at + 10 - from) + 1) e in
+      (λ from. digitsSize bytes from (at + 10 - from)) (λ from. digitsEnd bytes from (at + 10 - from) + 1) e in
       let t = both-true _ _ (f .0) in
       let u = both-true _ _ (t .0) in
       let v = both-true _ _ (u .0) in
@@ -487,15 +518,16 @@ module _ {bytes : List ℕ} {at : ℕ} {d : Found} where
   long-number e same =
       let from = digitsFrom bytes at in
       let end = digitsEnd bytes from 10 in
-      let f = found-is bytes at (λ from. isLongAt bytes at from)
-      (λ from. valueFrom 0 (slice from (digitsEnd bytes from 10) bytes)) (λ from. digitsEnd bytes from 10) e in
+      let f = found-is bytes at (λ from. isLongAt bytes at from) (λ from. digitsSize bytes from 10)
+      (λ from. digitsEnd bytes from 10) e in
       let t = both-true _ _ (f .0) in
       let u = both-true _ _ (t .0) in
       let v = both-true _ _ (u .0) in
       let room = leb-true 12 (length bytes - at) (v .0) in
       let near = start-near bytes at in
       let first = eqb-false (getD bytes from 0) 48 (not-true _ (u .1)) in
-      let digit : isDigit (getD bytes from 0) ≡ true = both-true _ _ (both-true _ _ (both-true _ _ (v .1) .0) .0) .0 in
+      let two = both-true _ _ (both-true _ _ (v .1) .0) .0 in
+      let digit : isDigit (getD bytes from 0) ≡ true = both-true _ _ two .0 in
       let read = digits-all bytes from 10 (omega arith) (omega arith) in
       let short = front-short bytes 10 from in
       let some : from < end = front-some bytes from 10 (omega arith) digit in

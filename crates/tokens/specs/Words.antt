@@ -290,9 +290,11 @@ module _ (bytes : List ℕ) (small : (j : ℕ) → getD bytes j 0 < 256) where
   front-full : (k i : ℕ) → length (front bytes i k) ≡ k → stopWord k (changed bytes i k) ≡ 0
   unfolding front stopWord repeated
   front-full zero i e = and-zero-r (bitOr ((changed bytes i 0 + repeated 118 0) % 2 ^ (8 * 0)) (changed bytes i 0))
-  front-full (suc k) i e = ap (stopWord (suc k)) (changed-next k i) ∙ by (isDigit (getD bytes i 0)) refl e (front-full k (i + 1))
+  front-full (suc k) i e =
+      ap (stopWord (suc k)) (changed-next k i) ∙ by (isDigit (getD bytes i 0)) refl e (front-full k (i + 1))
     where
-      by : (t : Bool) → isDigit (getD bytes i 0) ≡ t → length (cond t ((getD bytes i 0 - 48) ∷ front bytes (i + 1) k) []) ≡ suc k
+      by : (t : Bool) → isDigit (getD bytes i 0) ≡ t
+          → length (cond t ((getD bytes i 0 - 48) ∷ front bytes (i + 1) k) []) ≡ suc k
           → (length (front bytes (i + 1) k) ≡ k → stopWord k (changed bytes (i + 1) k) ≡ 0)
           → stopWord (suc k) (changed bytes (i + 1) k * 256 + bitXor (getD bytes i 0) 48) ≡ 0
       by true e full rest =
@@ -506,7 +508,8 @@ module _ (bytes : List ℕ) (small : (j : ℕ) → getD bytes j 0 < 256) (at fro
   pub front-stops : (s ≡ 0 → ⊥) → isDigit (getD bytes (at + n) 0) ≡ false
   front-stops stop =
       let short = front-short bytes 7 (at + 1) in
-      let less : length behind < 7 = lt-of-le-ne short (λ full. stop (omega (arith, s-is, front-full bytes small 7 (at + 1) full))) in
+      let less : length behind < 7 =
+      lt-of-le-ne short (λ full. stop (omega (arith, s-is, front-full bytes small 7 (at + 1) full))) in
       ap (λ k. isDigit (getD bytes k 0)) (omega (arith, n-is)) ∙ front-next bytes 7 (at + 1) less
 
   pub sign-less : 29 * (from - at) ≤ x
@@ -583,7 +586,7 @@ no-digit b h e = by (isDigit b) refl
     by true d = let k = digit-bounds b d in absurd (omega (arith, ltb-false (bitXor b 48) 10 e, digit-byte b h d .1))
     by false d = refl
 
--- The digits in front, with the ninth and the tenth byte or without, end at a byte that is no digit, or behind ten bytes.
+-- The digits in front, with the ninth and the tenth byte or without, end at no digit or behind ten bytes.
 module _ (bytes : List ℕ) (small : (j : ℕ) → getD bytes j 0 < 256) (at s n : ℕ) (all : s ≡ 0 → n ≡ 8)
     (stops : (s ≡ 0 → ⊥) → isDigit (getD bytes (at + n) 0) ≡ false) where
   ended-by : (zero nine ten : Bool) → eqb s 0 ≡ zero → ltb (bitXor (getD bytes (at + 8) 0) 48) 10 ≡ nine
@@ -601,10 +604,12 @@ module _ (bytes : List ℕ) (small : (j : ℕ) → getD bytes j 0 < 256) (at s n
 
   pub front-ended : (more last : Bool) → more ≡ (eqb s 0 && ltb (bitXor (getD bytes (at + 8) 0) 48) 10)
       → last ≡ (more && ltb (bitXor (getD bytes (at + 9) 0) 48) 10)
-      → at + n + boolByte more + boolByte last < at + 10 → isDigit (getD bytes (at + n + boolByte more + boolByte last) 0) ≡ false
+      → at + n + boolByte more + boolByte last < at + 10
+      → isDigit (getD bytes (at + n + boolByte more + boolByte last) 0) ≡ false
   front-ended more last e f =
       rw (f, e)
-      (ended-by (eqb s 0) (ltb (bitXor (getD bytes (at + 8) 0) 48) 10) (ltb (bitXor (getD bytes (at + 9) 0) 48) 10) refl refl refl)
+      (ended-by (eqb s 0) (ltb (bitXor (getD bytes (at + 8) 0) 48) 10) (ltb (bitXor (getD bytes (at + 9) 0) 48) 10)
+      refl refl refl)
 
 -- One digit more, if it was found.
 pub more-read : (bytes : List ℕ) → ((j : ℕ) → getD bytes j 0 < 256) → (from end v place : ℕ) → place < length bytes → place < from + 10
@@ -625,10 +630,12 @@ more-read bytes small from end v place h short true found read =
         by false e = absurd (omega (arith, other-byte b h e .1))
 
 -- A token whose digits begin with a digit begins with that or with a minus.
-pub begins : (bytes : List ℕ) (at : ℕ) {from : ℕ} → from ≡ digitsFrom bytes at → isDigit (getD bytes from 0) ≡ true → Begins bytes at from
+pub begins : (bytes : List ℕ) (at : ℕ) {from : ℕ} → from ≡ digitsFrom bytes at → isDigit (getD bytes from 0) ≡ true
+    → Begins bytes at from
 unfolding digitsFrom
 begins bytes at {from} = by (eqb (getD bytes at 0) minus) refl
   where
-    by : (t : Bool) → eqb (getD bytes at 0) minus ≡ t → from ≡ cond t (at + 1) at → isDigit (getD bytes from 0) ≡ true → Begins bytes at from
+    by : (t : Bool) → eqb (getD bytes at 0) minus ≡ t → from ≡ cond t (at + 1) at
+        → isDigit (getD bytes from 0) ≡ true → Begins bytes at from
     by true e f digit = inr (f, eqb-true _ _ e)
     by false e f digit = inl (f, subst (λ k. isDigit (getD bytes k 0) ≡ true) f digit)

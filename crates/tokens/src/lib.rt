@@ -12,8 +12,8 @@ ghost use lib.Signed.{leZ};
 ghost use Rattle.rules.specs.Numbers.{isSeparator, isDigit, startsRight, thenRead, field, between, judgeSmall};
 ghost use Rattle.rules.specs.Sheets.{always};
 ghost use Rattle.tokens.specs.Tokens.{DigitsStart, DigitsTo, Stopped, tokenAnswer};
-ghost use Rattle.tokens.specs.Straight.{twoDigits, fourDigits, eightDigits, twoBytes, fourBytes, front, digitsFrom};
-ghost use Rattle.tokens.specs.Straight.{digitAt, digitsAt, longAt, Judged};
+ghost use Rattle.tokens.specs.Straight.{twoDigits, fourDigits, eightDigits, twoBytes, fourBytes};
+ghost use Rattle.tokens.specs.Straight.{digitsEnd, digitsFrom, digitAt, digitsAt, longAt, Judged};
 ghost use Rattle.tokens.specs.Words.{fourWord, eightWord, restStops, frontCount, wordValue, Begins};
 ghost use Rattle.tokens.specs.Fields.{NumberAt, Answers, Unread, readNumber, readOf, closing};
 
@@ -190,7 +190,8 @@ fn eight_value(bytes: &[u8], from: usize) -> u64
 // One digit more, if there is one.
 fn with_digit(bytes: &[u8], from: usize, d: Digits) -> Digits
     requires { ⌜ DigitsTo (now bytes) from (d .end) (d .value) × (d .end < from + 10) × (d .end < length (now bytes)) ⌝ }
-    ensures { λ r. ⌜ DigitsTo (now (bytes .entry)) from (r .end) (r .value) × (r .end ≡ d .end + length (front (now (bytes .entry)) (d .end) 1)) ⌝ }
+    ensures { λ r. ⌜ DigitsTo (now (bytes .entry)) from (r .end) (r .value) ⌝ }
+    ensures { λ r. ⌜ r .end ≡ digitsEnd (now (bytes .entry)) (d .end) 1 ⌝ }
 {
     let end = d.end;
     let b = bytes[end];
@@ -379,7 +380,8 @@ fn one_more(value: u64, digit: u8, more: bool) -> u64
 fn front_digits(bytes: &[u8], at: usize, from: usize, x: u64, s: u64, n: usize) -> Digits
     requires { ⌜ (at + 10 ≤ length (now bytes)) × Begins (now bytes) at from × (isDigit (getD (now bytes) from 0) ≡ true) ⌝ }
     requires { ⌜ (x ≡ bitXor (eightWord (now bytes) at) 0x3030303030303030) × (s ≡ restStops x) × (n ≡ frontCount s) ⌝ }
-    ensures { λ r. ⌜ DigitsTo (now (bytes .entry)) from (r .end) (r .value) × (r .end ≡ from + length (front (now (bytes .entry)) from (at + 10 - from))) ⌝ }
+    ensures { λ r. ⌜ DigitsTo (now (bytes .entry)) from (r .end) (r .value) ⌝ }
+    ensures { λ r. ⌜ r .end ≡ digitsEnd (now (bytes .entry)) from (at + 10 - from) ⌝ }
 {
     let value = word_value((x - 29 * (from - at) as u64) << (64 - 8 * n));
     let ninth = bytes[at + 8] ^ 48;

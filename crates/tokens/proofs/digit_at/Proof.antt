@@ -94,7 +94,8 @@ unfolding isDigitAt
 returns-4 c =
     let s = c .before .before .before in
     let m = asked s in
-    let none : isDigit (getD (bytes (sign m)) (from (sign m)) 0) ≡ false = sym (c .before .is-digit .ensures) ∙ not-true _ (c .if4 .taken) in
+    let none : isDigit (getD (bytes (sign m)) (from (sign m)) 0) ≡ false =
+    sym (c .before .is-digit .ensures) ∙ not-true _ (c .if4 .taken) in
     digit-none _ _ (sign m .after-sign .ensures .0) _ (rw (room (sign m), mark m, is-one s, none))
 
 -- What is known of a byte that is a digit, behind which the separator stands.
@@ -126,7 +127,8 @@ returns-5 c =
     let w = c .before in
     let e = w .before in
     let a = begun e in
-    let none : leb (from a - at a) (getD (bytes a) (from a) 0 - 48) ≡ false = lt-leb (from a - at a) (getD (bytes a) (from a) 0 - 48) (omega (arith, w .wide .ensures .0, c .if5 .taken)) in
+    let none : leb (from a - at a) (getD (bytes a) (from a) 0 - 48) ≡ false =
+    lt-leb (from a - at a) (getD (bytes a) (from a) 0 - 48) (omega (arith, w .wide .ensures .0, c .if5 .taken)) in
     digit-none _ _ (a .after-sign .ensures .0) _
     (rw (room a, mark (asked (behind e)), is-one (behind e), digit e, none))
 
@@ -142,7 +144,8 @@ returns-6 c =
     let w = c .before .before in
     let e = w .before in
     let a = begun e in
-    let right : leb (from a - at a) (getD (bytes a) (from a) 0 - 48) ≡ true = le-leb (from a - at a) (getD (bytes a) (from a) 0 - 48) (omega (arith, w .wide .ensures .0, c .before .if5 .left)) in
+    let right : leb (from a - at a) (getD (bytes a) (from a) 0 - 48) ≡ true =
+    le-leb (from a - at a) (getD (bytes a) (from a) 0 - 48) (omega (arith, w .wide .ensures .0, c .before .if5 .left)) in
     digit-found _ _ (a .after-sign .ensures .0) _
     (rw (room a, mark (asked (behind e)), is-one (behind e), digit e, right))
     (toZ-ofZ (sfits-of (c .signed-value .ok)) ∙ c .signed-value .ensures

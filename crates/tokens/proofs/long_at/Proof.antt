@@ -110,7 +110,9 @@ module _ (d : tie.After-with-digit2) where
   short =
       let one = front-short (bytes begun) 1 (from begun + 8) in
       let two = front-short (bytes begun) 1 (nine .with-digit .result .end) in
-      (omega (arith, d .with-digit2 .ensures .1, nine .with-digit .ensures .1), omega (arith, d .with-digit2 .ensures .1, nine .with-digit .ensures .1))
+      let e = d .with-digit2 .ensures .1 in
+      let f = nine .with-digit .ensures .1 in
+      (omega arith, omega arith)
 
   ends : end ≡ digitsEnd (bytes begun) (from begun) 10
   ends =
@@ -142,7 +144,8 @@ returns-5 c =
     let d = c .before .before .before .before in
     let a = begun d in
     let mark : isSeparator (getD (bytes a) (digitsEnd (bytes a) (from a) 10) 0) ≡ true =
-    ap (λ k. isSeparator (getD (bytes a) k 0)) (sym (ends d)) ∙ sym (c .before .before .is-separator .ensures) ∙ not-false _ (c .before .if4 .left) in
+    ap (λ k. isSeparator (getD (bytes a) k 0)) (sym (ends d)) ∙ sym (c .before .before .is-separator .ensures)
+    ∙ not-false _ (c .before .if4 .left) in
     long-found _ _ (a .after-sign .ensures .0)
     (rw (left a, eight (other d .before .before), ne-eqb _ _ (other d .if3 .left), mark))
     (toZ-ofZ (sfits-of (c .signed-value .ok)) ∙ c .signed-value .ensures

@@ -33,7 +33,8 @@ unfolding always
 returns c =
     let n = c .before .before .before .number-at in
     let s = c .before .before .before .before .before .before .before .before in
-    answers-field (judgeColumn (sizesOf (s .args .z)) (s .args .before) (s .args .last) (s .args .s)) (always 32) (n .ensures) (search needs)
+    answers-field (judgeColumn (sizesOf (s .args .z)) (s .args .before) (s .args .last) (s .args .s)) (always 32) (n .ensures)
+    (search needs)
     (simp (toZ-ofZ (s .fits .before), toZ-ofZ (s .fits .s)) at (c .before .judge-column .ensures)) refl (c .separated .ensures .0)
 
 judge-column-requires-2 : tie.Need-judge-column-requires-2
