@@ -1,4 +1,5 @@
 // Counts, and the separators of what is counted.
+use tokens::Straight;
 ghost use mathlib.Core.Path.{_≡_};
 ghost use Prim.Native.Nat.{_≤_};
 ghost use lib.ListN.{length, drop};
@@ -29,21 +30,29 @@ pub fn parting(left: usize) -> u8
     mark_after(10, left)
 }
 
-// A count of 0 to `most` things.
-pub fn count_at(bytes: &[u8], at: usize, most: i64) -> tokens::NumberRead
+// A count of 0 to `most` things, read in general.
+fn any_count_at(bytes: &[u8], at: usize, most: i64) -> tokens::NumberRead
     requires { ⌜ at ≤ length (now bytes) ⌝ }
-    ensures { λ r. ⌜ Answers (now (bytes .entry)) (r .refusal) (r .value) (r .at) (field (between (pos 0) most) afterCount (drop at (now (bytes .entry)))) ⌝ }
+    ensures { λ r. ⌜ Answers (now (bytes .entry)) (r .refusal) (r .value) (r .at)
+        (field (between (pos 0) most) afterCount (drop at (now (bytes .entry)))) ⌝ }
 {
-    let d = tokens::digit_at(bytes, at, 32);
-    if d.refusal == 0 {
-        if tokens::judge_between(0, most, d.value) == 0 {
-            if after_count(d.value) == 32 {
-                return d;
-            }
-        }
-    }
     let n = tokens::number_at(bytes, at);
     let judgement = tokens::judge_between(0, most, n.value);
     let separator = after_count(n.value);
     tokens::separated(bytes, n, judgement, separator)
+}
+
+// A count of 0 to `most` things.
+pub fn count_at(bytes: &[u8], at: usize, most: i64) -> tokens::NumberRead
+    requires { ⌜ at ≤ length (now bytes) ⌝ }
+    ensures { λ r. ⌜ Answers (now (bytes .entry)) (r .refusal) (r .value) (r .at)
+        (field (between (pos 0) most) afterCount (drop at (now (bytes .entry)))) ⌝ }
+{
+    let Straight::Number(d) = tokens::digit_at(bytes, at, 32) else {
+        return any_count_at(bytes, at, most);
+    };
+    if after_count(d.value) != 32 {
+        return any_count_at(bytes, at, most);
+    }
+    tokens::judged(d, tokens::judge_between(0, most, d.value))
 }

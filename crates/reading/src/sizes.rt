@@ -1,4 +1,5 @@
 // The sizes: the line of 3, m, l and t, and the line with the number of equations (SCOPE 4.12, 4.13).
+use tokens::Straight;
 ghost use mathlib.Core.Path.{_≡_};
 ghost use Prim.Native.Nat.{_≤_};
 ghost use lib.ListN.{length, drop};
@@ -26,15 +27,11 @@ fn lowest_at(bytes: &[u8], at: usize, l: i64) -> tokens::NumberRead
     requires { ⌜ (at ≤ length (now bytes)) × (natAbs l ≤ 64) ⌝ }
     ensures { λ r. ⌜ Answers (now (bytes .entry)) (r .refusal) (r .value) (r .at) (field (judgeLowest l) (always 10) (drop at (now (bytes .entry)))) ⌝ }
 {
-    let d = tokens::digit_at(bytes, at, 10);
-    if d.refusal == 0 {
-        if judge_lowest(l, d.value) == 0 {
-            return d;
-        }
-    }
-    let n = tokens::number_at(bytes, at);
-    let judgement = judge_lowest(l, n.value);
-    tokens::separated(bytes, n, judgement, 10)
+    let Straight::Number(d) = tokens::digit_at(bytes, at, 10) else {
+        let n = tokens::number_at(bytes, at);
+        return tokens::separated(bytes, n, judge_lowest(l, n.value), 10);
+    };
+    tokens::judged(d, judge_lowest(l, d.value))
 }
 
 // The count that a sheet begins with, 3, and the number of unknowns (SCOPE 4.12).

@@ -1,5 +1,6 @@
 // Terms: block, column, the number of coefficients, and those from power 0 on (SCOPE 4.22).
 use polynomials::lengths::COEFFICIENTS;
+use tokens::Straight;
 ghost use mathlib.Core.Path.{_≡_};
 ghost use Prim.Native.Nat.{_≤_};
 ghost use lib.ListN.{length, drop};
@@ -71,15 +72,11 @@ fn block_at(bytes: &[u8], at: usize, z: stores::validity::Sizes, before: i64) ->
     requires { ⌜ at ≤ length (now bytes) ⌝ }
     ensures { λ r. ⌜ Answers (now (bytes .entry)) (r .refusal) (r .value) (r .at) (field (judgeBlock (sizesOf z) before) (always 32) (drop at (now (bytes .entry)))) ⌝ }
 {
-    let d = tokens::digit_at(bytes, at, 32);
-    if d.refusal == 0 {
-        if judge_block(z, before, d.value) == 0 {
-            return d;
-        }
-    }
-    let n = tokens::number_at(bytes, at);
-    let judgement = judge_block(z, before, n.value);
-    tokens::separated(bytes, n, judgement, 32)
+    let Straight::Number(d) = tokens::digit_at(bytes, at, 32) else {
+        let n = tokens::number_at(bytes, at);
+        return tokens::separated(bytes, n, judge_block(z, before, n.value), 32);
+    };
+    tokens::judged(d, judge_block(z, before, d.value))
 }
 
 fn column_at(
@@ -93,38 +90,36 @@ fn column_at(
     requires { ⌜ (at ≤ length (now bytes)) × ((z .m ≤ 4) × (last ≤ 4)) ⌝ }
     ensures { λ r. ⌜ Answers (now (bytes .entry)) (r .refusal) (r .value) (r .at) (field (judgeColumn (sizesOf z) before last s) (always 32) (drop at (now (bytes .entry)))) ⌝ }
 {
-    let d = tokens::digit_at(bytes, at, 32);
-    if d.refusal == 0 {
-        if judge_column(z, before, last, s, d.value) == 0 {
-            return d;
-        }
-    }
-    let n = tokens::number_at(bytes, at);
-    let judgement = judge_column(z, before, last, s, n.value);
-    tokens::separated(bytes, n, judgement, 32)
+    let Straight::Number(d) = tokens::digit_at(bytes, at, 32) else {
+        let n = tokens::number_at(bytes, at);
+        return tokens::separated(bytes, n, judge_column(z, before, last, s, n.value), 32);
+    };
+    tokens::judged(d, judge_column(z, before, last, s, d.value))
 }
 
-// A coefficient after which `left` others are to come; `last` stands after the last. What `digits_at` reads is not 0.
+// A coefficient after which `left` others are to come, of more than one digit. What `digits_at` reads is not 0.
+fn long_coefficient_at(bytes: &[u8], at: usize, left: usize, separator: u8) -> tokens::NumberRead
+    requires { ⌜ at ≤ length (now bytes) ⌝ }
+    ensures { λ r. ⌜ Answers (now (bytes .entry)) (r .refusal) (r .value) (r .at)
+        (field (judgeCoefficient left) (always separator) (drop at (now (bytes .entry)))) ⌝ }
+{
+    let Straight::Number(d) = tokens::digits_at(bytes, at, separator) else {
+        let n = tokens::number_at(bytes, at);
+        return tokens::separated(bytes, n, judge_coefficient(left, n.value), separator);
+    };
+    tokens::judged(d, tokens::judge_small(d.value))
+}
+
+// A coefficient after which `left` others are to come; `last` stands after the last.
 fn coefficient_at(bytes: &[u8], at: usize, left: usize, last: u8) -> tokens::NumberRead
     requires { ⌜ at ≤ length (now bytes) ⌝ }
     ensures { λ r. ⌜ Answers (now (bytes .entry)) (r .refusal) (r .value) (r .at) (readCoefficient last left (drop at (now (bytes .entry)))) ⌝ }
 {
     let separator = crate::counts::mark_after(last, left);
-    let d = tokens::digit_at(bytes, at, separator);
-    if d.refusal == 0 {
-        if judge_coefficient(left, d.value) == 0 {
-            return d;
-        }
-    }
-    let s = tokens::digits_at(bytes, at, separator);
-    if s.refusal == 0 {
-        if tokens::judge_small(s.value) == 0 {
-            return s;
-        }
-    }
-    let n = tokens::number_at(bytes, at);
-    let judgement = judge_coefficient(left, n.value);
-    tokens::separated(bytes, n, judgement, separator)
+    let Straight::Number(d) = tokens::digit_at(bytes, at, separator) else {
+        return long_coefficient_at(bytes, at, left, separator);
+    };
+    tokens::judged(d, judge_coefficient(left, d.value))
 }
 
 // The coefficients of a term, read into the numbers of a polynomial, zeros past them.

@@ -15,19 +15,18 @@ use mathlib.Core.Path.{_≡_, refl, sym, ap, ap₂, _∙_, subst}
 use mathlib.Core.Logic.{_⊎_, inl, inr}
 use mathlib.Core.Bool.{Bool, true, false, _&&_, cond}
 use mathlib.Core.List.{List, [], _∷_}
-use lib.Dec.{T, eqb, leb, eqb→eq, leb→le}
-use borrow.Author.Tests.{eqb-true, lt-ltb}
+use lib.Dec.{T, eqb, leb, ltb, eqb→eq, leb→le}
+use borrow.Author.Tests.{eqb-true, lt-ltb, ltb-false, eqb-false}
 use mir.Val.{boolByte}
-use lib.ListN.{length, getD, drop}
-use lib.Seq.{drop-cons}
+use lib.ListN.{length, getD}
 use lib.Arith.{lt-of-le-ne, mod-mul, digits-div, digits-mod}
 use lib.Pow.{pow-pos, pow-mono, pow-add, split, mod-mod-pow, ones-lt}
 use lib.Bits.{bitAnd, bitOr, bitXor, and-zero-r, and-block, or-block, xor-block, or-lt, xor-lt, and-mask, and-mod, or-mod}
 use lib.Count.{trailingZeros, trailing-of-zero}
-use Rattle.rules.specs.Numbers.{isSeparator, isDigit, word, signed}
-use Rattle.lists.specs.Tests.{true-T, T-&&}
-use Rattle.tokens.specs.Tokens.{DigitsStart, DigitsTo, digits-begin, digits-go-on, digit-bounds}
-use Rattle.tokens.specs.Straight.{one-read}
+use Rattle.rules.specs.Numbers.{minus, isDigit}
+use Rattle.lists.specs.Tests.{T-&&}
+use Rattle.tokens.specs.Tokens.{DigitsTo, digits-begin, digits-go-on, digit-bounds}
+use Rattle.tokens.specs.Straight.{front, valued, front-short, front-next, digits-front, one-read, digitsFrom}
 
 -- ---- a byte
 
@@ -211,20 +210,10 @@ stop-byte m y =
 unfoldable pub frontCount : ℕ → ℕ
 frontCount s = trailingZeros 64 s / 8
 
--- The digits in front of k bytes from i on.
-unfoldable pub front : List ℕ → ℕ → ℕ → List ℕ
-front bytes i zero = []
-front bytes i (suc k) = cond (isDigit (getD bytes i 0)) ((getD bytes i 0 - 48) ∷ front bytes (i + 1) k) []
-
 -- Digits as one number, the first of them lowest.
 unfoldable pub packed : List ℕ → ℕ
 packed [] = 0
 packed (d ∷ l) = packed l * 256 + d
-
--- The value of digits of a base, behind those of the value v.
-unfoldable pub valued : ℕ → ℕ → List ℕ → ℕ
-valued c v [] = v
-valued c v (d ∷ l) = valued c (c * v + d) l
 
 -- The bytes from i on, each changed by 48.
 unfoldable pub changed : List ℕ → ℕ → ℕ → ℕ
@@ -297,31 +286,23 @@ module _ (bytes : List ℕ) (small : (j : ℕ) → getD bytes j 0 < 256) where
       by true e (suc j) rest = rest j
       by false e j rest = omega arith
 
-  front-short : (k i : ℕ) → length (front bytes i k) ≤ k
-  unfolding front
-  front-short zero i = omega arith
-  front-short (suc k) i = by (isDigit (getD bytes i 0)) (front-short k (i + 1))
-    where
-      by : (t : Bool) → length (front bytes (i + 1) k) ≤ k → length (cond t ((getD bytes i 0 - 48) ∷ front bytes (i + 1) k) []) ≤ suc k
-      by true h = omega arith
-      by false h = omega arith
-
-  digits-front : (from k i v : ℕ) → DigitsTo bytes from i v → i + k ≤ length bytes → i + k ≤ from + 10
-      → DigitsTo bytes from (i + length (front bytes i k)) (valued 10 v (front bytes i k))
-  unfolding front valued
-  digits-front from zero i v read h short = subst (λ e. DigitsTo bytes from e v) (omega arith) read
-  digits-front from (suc k) i v read h short =
-      by (isDigit (getD bytes i 0)) refl (λ w one. digits-front from k (i + 1) w one (omega arith) (omega arith))
+  -- Where all k bytes are digits, none stops.
+  front-full : (k i : ℕ) → length (front bytes i k) ≡ k → stopWord k (changed bytes i k) ≡ 0
+  unfolding front stopWord repeated
+  front-full zero i e = and-zero-r (bitOr ((changed bytes i 0 + repeated 118 0) % 2 ^ (8 * 0)) (changed bytes i 0))
+  front-full (suc k) i e =
+      ap (stopWord (suc k)) (changed-next k i) ∙ by (isDigit (getD bytes i 0)) refl e (front-full k (i + 1))
     where
       by : (t : Bool) → isDigit (getD bytes i 0) ≡ t
-          → ((w : ℕ) → DigitsTo bytes from (i + 1) w
-          → DigitsTo bytes from (i + 1 + length (front bytes (i + 1) k)) (valued 10 w (front bytes (i + 1) k)))
-          → DigitsTo bytes from (i + length (cond t ((getD bytes i 0 - 48) ∷ front bytes (i + 1) k) []))
-          (valued 10 v (cond t ((getD bytes i 0 - 48) ∷ front bytes (i + 1) k) []))
-      by true e rest =
-          subst (λ n. DigitsTo bytes from n (valued 10 (10 * v + (getD bytes i 0 - 48)) (front bytes (i + 1) k))) (omega arith)
-          (rest (10 * v + (getD bytes i 0 - 48)) (digits-go-on bytes from i v read (omega arith) (omega arith) e))
-      by false e rest = subst (λ n. DigitsTo bytes from n v) (omega arith) read
+          → length (cond t ((getD bytes i 0 - 48) ∷ front bytes (i + 1) k) []) ≡ suc k
+          → (length (front bytes (i + 1) k) ≡ k → stopWord k (changed bytes (i + 1) k) ≡ 0)
+          → stopWord (suc k) (changed bytes (i + 1) k * 256 + bitXor (getD bytes i 0) 48) ≡ 0
+      by true e full rest =
+          let d = digit-byte _ (small i) e in
+          let h = digit-bounds (getD bytes i 0) e in
+          stop-pass k (changed bytes (i + 1) k) (bitXor (getD bytes i 0) 48) (omega (arith, d .1)) (d .0)
+          ∙ ap (λ n. n * 256 + 0) (rest (omega arith))
+      by false e full rest = absurd (omega arith)
 
 -- ---- digits that were shifted to the high places
 
@@ -506,7 +487,7 @@ module _ (bytes : List ℕ) (small : (j : ℕ) → getD bytes j 0 < 256) (at fro
       eight-more t = omega arith
 
   pub front-most : (1 ≤ n) × (n ≤ 8)
-  front-most = let short = front-short bytes small 7 (at + 1) in (omega (arith, n-is), omega (arith, n-is))
+  front-most = let short = front-short bytes 7 (at + 1) in (omega (arith, n-is), omega (arith, n-is))
 
   pub front-some : isDigit (getD bytes from 0) ≡ true → from < at + n
   unfolding front
@@ -522,6 +503,14 @@ module _ (bytes : List ℕ) (small : (j : ℕ) → getD bytes j 0 < 256) (at fro
   pub front-all : s ≡ 0 → n ≡ 8
   unfolding frontCount
   front-all e = en ∙ ap frontCount e ∙ ap (λ t. t / 8) (trailing-of-zero 64)
+
+  -- Where one stopped, the byte behind the digits is none.
+  pub front-stops : (s ≡ 0 → ⊥) → isDigit (getD bytes (at + n) 0) ≡ false
+  front-stops stop =
+      let short = front-short bytes 7 (at + 1) in
+      let less : length behind < 7 =
+      lt-of-le-ne short (λ full. stop (omega (arith, s-is, front-full bytes small 7 (at + 1) full))) in
+      ap (λ k. isDigit (getD bytes k 0)) (omega (arith, n-is)) ∙ front-next bytes 7 (at + 1) less
 
   pub sign-less : 29 * (from - at) ≤ x
   sign-less = omega (arith, x-is, first-is how .0)
@@ -571,14 +560,14 @@ module _ (bytes : List ℕ) (small : (j : ℕ) → getD bytes j 0 < 256) (at fro
   -- The digits in front, and their value.
   read-from : Begins bytes at from → DigitsTo bytes from (at + 1 + length behind) (valued 10 (first - 29 * (from - at)) behind)
   read-from (inl b) =
-      digits-front bytes small from 7 (at + 1) (first - 29 * (from - at))
+      digits-front bytes from 7 (at + 1) (first - 29 * (from - at))
       (subst (λ v. DigitsTo bytes from (at + 1) v) worth (subst (λ f. DigitsTo bytes f (at + 1) (getD bytes at 0 - 48)) (sym (b .0))
       (one-read bytes at (omega arith) (b .1)))) (omega arith) (omega arith)
     where
       worth : getD bytes at 0 - 48 ≡ first - 29 * (from - at)
       worth = omega (arith, digit-byte _ (small at) (b .1) .1, b .0)
   read-from (inr b) =
-      digits-front bytes small from 7 (at + 1) (first - 29 * (from - at))
+      digits-front bytes from 7 (at + 1) (first - 29 * (from - at))
       (subst (λ v. DigitsTo bytes from (at + 1) v) worth (subst (λ f. DigitsTo bytes f (at + 1) 0) (sym (b .0))
       (digits-begin bytes (at + 1) (omega arith)))) (omega arith) (omega arith)
     where
@@ -589,6 +578,38 @@ module _ (bytes : List ℕ) (small : (j : ℕ) → getD bytes j 0 < 256) (at fro
   front-read =
       subst (λ v. DigitsTo bytes from (at + n) v) (sym value-is)
       (subst (λ e. DigitsTo bytes from e (valued 10 (first - 29 * (from - at)) behind)) (omega (arith, n-is)) (read-from how))
+
+pub no-digit : (b : ℕ) → b < 256 → ltb (bitXor b 48) 10 ≡ false → isDigit b ≡ false
+no-digit b h e = by (isDigit b) refl
+  where
+    by : (t : Bool) → isDigit b ≡ t → t ≡ false
+    by true d = let k = digit-bounds b d in absurd (omega (arith, ltb-false (bitXor b 48) 10 e, digit-byte b h d .1))
+    by false d = refl
+
+-- The digits in front, with the ninth and the tenth byte or without, end at no digit or behind ten bytes.
+module _ (bytes : List ℕ) (small : (j : ℕ) → getD bytes j 0 < 256) (at s n : ℕ) (all : s ≡ 0 → n ≡ 8)
+    (stops : (s ≡ 0 → ⊥) → isDigit (getD bytes (at + n) 0) ≡ false) where
+  ended-by : (zero nine ten : Bool) → eqb s 0 ≡ zero → ltb (bitXor (getD bytes (at + 8) 0) 48) 10 ≡ nine
+      → ltb (bitXor (getD bytes (at + 9) 0) 48) 10 ≡ ten
+      → at + n + boolByte (zero && nine) + boolByte (zero && nine && ten) < at + 10
+      → isDigit (getD bytes (at + n + boolByte (zero && nine) + boolByte (zero && nine && ten)) 0) ≡ false
+  ended-by false nine ten e f g h = ap (λ k. isDigit (getD bytes k 0)) (omega arith) ∙ stops (eqb-false s 0 e)
+  ended-by true false ten e f g h =
+      let eight = all (eqb-true s 0 e) in
+      ap (λ k. isDigit (getD bytes k 0)) (omega arith) ∙ no-digit (getD bytes (at + 8) 0) (small (at + 8)) f
+  ended-by true true false e f g h =
+      let eight = all (eqb-true s 0 e) in
+      ap (λ k. isDigit (getD bytes k 0)) (omega arith) ∙ no-digit (getD bytes (at + 9) 0) (small (at + 9)) g
+  ended-by true true true e f g h = let eight = all (eqb-true s 0 e) in absurd (omega arith)
+
+  pub front-ended : (more last : Bool) → more ≡ (eqb s 0 && ltb (bitXor (getD bytes (at + 8) 0) 48) 10)
+      → last ≡ (more && ltb (bitXor (getD bytes (at + 9) 0) 48) 10)
+      → at + n + boolByte more + boolByte last < at + 10
+      → isDigit (getD bytes (at + n + boolByte more + boolByte last) 0) ≡ false
+  front-ended more last e f =
+      rw (f, e)
+      (ended-by (eqb s 0) (ltb (bitXor (getD bytes (at + 8) 0) 48) 10) (ltb (bitXor (getD bytes (at + 9) 0) 48) 10)
+      refl refl refl)
 
 -- One digit more, if it was found.
 pub more-read : (bytes : List ℕ) → ((j : ℕ) → getD bytes j 0 < 256) → (from end v place : ℕ) → place < length bytes → place < from + 10
@@ -609,21 +630,12 @@ more-read bytes small from end v place h short true found read =
         by false e = absurd (omega (arith, other-byte b h e .1))
 
 -- A token whose digits begin with a digit begins with that or with a minus.
-pub begins : (bytes : List ℕ) (at from : ℕ) → at < length bytes → DigitsStart bytes at from → from ≤ at + 1
-    → isDigit (getD bytes from 0) ≡ true → Begins bytes at from
-unfolding isSeparator word signed
-begins bytes at from h start near digit = by (ℕ-discrete from at)
+pub begins : (bytes : List ℕ) (at : ℕ) {from : ℕ} → from ≡ digitsFrom bytes at → isDigit (getD bytes from 0) ≡ true
+    → Begins bytes at from
+unfolding digitsFrom
+begins bytes at {from} = by (eqb (getD bytes at 0) minus) refl
   where
-    sign : (t : Bool) → signed (cond t [] (getD bytes at 0 ∷ word (drop (suc at) bytes))) ≡ true → getD bytes at 0 ≡ 45
-    sign true e = absurd (true-T false e)
-    sign false e = eqb-true (getD bytes at 0) 45 e
-
-    by : Dec (from ≡ at) → Begins bytes at from
-    by (yes e) = inl (e, subst (λ k. isDigit (getD bytes k 0) ≡ true) e digit)
-    by (no e) =
-        let behind : at < from = lt-of-le-ne (start .begun) (λ z. e (sym z)) in
-        inr (
-          omega arith,
-          sign (isSeparator (getD bytes at 0))
-              (ap (λ l. signed (word l)) (sym (drop-cons bytes at 0 h)) ∙ start .sign ∙ lt-ltb at from behind),
-        )
+    by : (t : Bool) → eqb (getD bytes at 0) minus ≡ t → from ≡ cond t (at + 1) at
+        → isDigit (getD bytes from 0) ≡ true → Begins bytes at from
+    by true e f digit = inr (f, eqb-true _ _ e)
+    by false e f digit = inl (f, subst (λ k. isDigit (getD bytes k 0) ≡ true) f digit)

@@ -2,7 +2,7 @@
 // (SCOPE 4.2); each is judged, and has its separator (SCOPE 4.33, 4.34, 4.36).
 ghost use mathlib.Core.Path.{_≡_};
 ghost use mathlib.Core.Bool.{true, _&&_, cond};
-ghost use Prim.Native.Nat.{_+_, _*_, _^_, _≤_, _<_};
+ghost use Prim.Native.Nat.{_+_, _-_, _*_, _^_, _≤_, _<_};
 ghost use lib.ListN.{length, getD, drop};
 ghost use lib.Seq.{slice};
 ghost use lib.Dec.{ltb};
@@ -12,7 +12,8 @@ ghost use lib.Signed.{leZ};
 ghost use Rattle.rules.specs.Numbers.{isSeparator, isDigit, startsRight, thenRead, field, between, judgeSmall};
 ghost use Rattle.rules.specs.Sheets.{always};
 ghost use Rattle.tokens.specs.Tokens.{DigitsStart, DigitsTo, Stopped, tokenAnswer};
-ghost use Rattle.tokens.specs.Straight.{twoDigits, fourDigits, eightDigits, twoBytes, fourBytes, Closed};
+ghost use Rattle.tokens.specs.Straight.{twoDigits, fourDigits, eightDigits, twoBytes, fourBytes};
+ghost use Rattle.tokens.specs.Straight.{digitsEnd, digitsFrom, digitAt, digitsAt, longAt, Judged};
 ghost use Rattle.tokens.specs.Words.{fourWord, eightWord, restStops, frontCount, wordValue, Begins};
 ghost use Rattle.tokens.specs.Fields.{NumberAt, Answers, Unread, readNumber, readOf, closing};
 
@@ -25,7 +26,7 @@ fn is_separator(b: u8) -> bool
 // Where the digits of the token at `at` begin: after a minus, if it has one.
 fn after_sign(bytes: &[u8], at: usize) -> usize
     requires { ⌜ at < length (now bytes) ⌝ }
-    ensures { λ r. ⌜ DigitsStart (now (bytes .entry)) at r × (r ≤ at + 1) ⌝ }
+    ensures { λ r. ⌜ (r ≡ digitsFrom (now (bytes .entry)) at) × (at ≤ r) × (r ≤ at + 1) ⌝ }
 {
     if bytes[at] == 45 { at + 1 } else { at }
 }
@@ -189,7 +190,8 @@ fn eight_value(bytes: &[u8], from: usize) -> u64
 // One digit more, if there is one.
 fn with_digit(bytes: &[u8], from: usize, d: Digits) -> Digits
     requires { ⌜ DigitsTo (now bytes) from (d .end) (d .value) × (d .end < from + 10) × (d .end < length (now bytes)) ⌝ }
-    ensures { λ r. ⌜ DigitsTo (now (bytes .entry)) from (r .end) (r .value) × (d .end ≤ r .end) × (r .end ≤ d .end + 1) ⌝ }
+    ensures { λ r. ⌜ DigitsTo (now (bytes .entry)) from (r .end) (r .value) ⌝ }
+    ensures { λ r. ⌜ r .end ≡ digitsEnd (now (bytes .entry)) (d .end) 1 ⌝ }
 {
     let end = d.end;
     let b = bytes[end];
@@ -202,21 +204,35 @@ fn with_digit(bytes: &[u8], from: usize, d: Digits) -> Digits
     }
 }
 
-// A number of eight to ten digits, read straight, where its longest form and a separator have room; any refusal says
-// that none was read so.
-fn long_at(bytes: &[u8], at: usize) -> NumberRead
+// A number that was read, and the place after it.
+pub struct Found {
+    pub value: i64,
+    pub at: usize,
+}
+
+// What a straight way, one without a loop, finds: a number, or nothing that it reads, which then is read in general.
+pub enum Straight {
+    Number(Found),
+    Other,
+}
+
+// The bytes of the longest number, with its sign and a separator.
+const LONGEST: usize = 12;
+
+// A number of eight to ten digits that does not begin with 0, where the longest has room.
+fn long_at(bytes: &[u8], at: usize) -> Straight
     requires { ⌜ at ≤ length (now bytes) ⌝ }
-    ensures { λ r. ⌜ (r .refusal ≡ 0 → NumberAt (now (bytes .entry)) at (r .refusal) (r .value) (r .at)) ⌝ }
+    ensures { λ r. ⌜ r ≡ longAt (now (bytes .entry)) at ⌝ }
 {
-    if bytes.len() - at < 12 {
-        return no_number(3);
+    if bytes.len() - at < LONGEST {
+        return Straight::Other;
     }
     let from = after_sign(bytes, at);
     if !eight_digits(bytes, from) {
-        return no_number(3);
+        return Straight::Other;
     }
     if bytes[from] == 48 {
-        return no_number(3);
+        return Straight::Other;
     }
     let eight = Digits {
         end: from + 8,
@@ -226,25 +242,20 @@ fn long_at(bytes: &[u8], at: usize) -> NumberRead
     let d = with_digit(bytes, from, nine);
     let end = d.end;
     if !is_separator(bytes[end]) {
-        return no_number(3);
+        return Straight::Other;
     }
-    NumberRead {
-        refusal: 0,
+    Straight::Number(Found {
         value: signed_value(at < from, d.value),
         at: end,
-    }
+    })
 }
 
-// The number at `at`; the place after it is that of its separator. Bytes that end before the separator are 4 where they
-// could begin a number, 3 where not (SCOPE 4.32); a token that is no number is 3 (SCOPE 4.33, 8.3).
-pub fn number_at(bytes: &[u8], at: usize) -> NumberRead
+// The number at `at`, read in general. Bytes that end before the separator are 4 where they could begin a number, 3
+// where not (SCOPE 4.32); a token that is no number is 3 (SCOPE 4.33, 8.3).
+fn token_at(bytes: &[u8], at: usize) -> NumberRead
     requires { ⌜ at ≤ length (now bytes) ⌝ }
     ensures { λ r. ⌜ NumberAt (now (bytes .entry)) at (r .refusal) (r .value) (r .at) ⌝ }
 {
-    let n = long_at(bytes, at);
-    if n.refusal == 0 {
-        return n;
-    }
     let from = digits_start(bytes, at);
     let d = digits_from(bytes, from);
     let end = d.end;
@@ -265,37 +276,50 @@ pub fn number_at(bytes: &[u8], at: usize) -> NumberRead
     }
 }
 
-// A number of one digit and the separator behind it, read straight: most numbers of a sheet are such. Any refusal says that none
-// was read so; a 0 has no sign.
-pub fn digit_at(bytes: &[u8], at: usize, separator: u8) -> NumberRead
+// The number at `at`, not yet judged; the place after it is that of its separator.
+pub fn number_at(bytes: &[u8], at: usize) -> NumberRead
     requires { ⌜ at ≤ length (now bytes) ⌝ }
-    ensures { λ r. ⌜ (r .refusal ≡ 0 → Closed (now (bytes .entry)) at separator (r .value) (r .at)) ⌝ }
+    ensures { λ r. ⌜ NumberAt (now (bytes .entry)) at (r .refusal) (r .value) (r .at) ⌝ }
+{
+    let Straight::Number(n) = long_at(bytes, at) else {
+        return token_at(bytes, at);
+    };
+    NumberRead {
+        refusal: 0,
+        value: n.value,
+        at: n.at,
+    }
+}
+
+// A number of one digit and the separator behind it: most numbers of a sheet are such. A 0 has no sign.
+pub fn digit_at(bytes: &[u8], at: usize, separator: u8) -> Straight
+    requires { ⌜ at ≤ length (now bytes) ⌝ }
+    ensures { λ r. ⌜ r ≡ digitAt (now (bytes .entry)) at separator ⌝ }
 {
     if bytes.len() - at < 3 {
-        return no_number(3);
+        return Straight::Other;
     }
     let from = after_sign(bytes, at);
     let end = from + 1;
     let after = bytes[end];
     if after != separator {
-        return no_number(3);
+        return Straight::Other;
     }
     if !is_separator(after) {
-        return no_number(3);
+        return Straight::Other;
     }
     let b = bytes[from];
     if !is_digit(b) {
-        return no_number(3);
+        return Straight::Other;
     }
     let size = wide(b - 48);
     if (size as usize) < from - at {
-        return no_number(3);
+        return Straight::Other;
     }
-    NumberRead {
-        refusal: 0,
+    Straight::Number(Found {
         value: signed_value(at < from, size),
         at: end + 1,
-    }
+    })
 }
 
 // Four bytes as one number, the first of them lowest.
@@ -356,7 +380,8 @@ fn one_more(value: u64, digit: u8, more: bool) -> u64
 fn front_digits(bytes: &[u8], at: usize, from: usize, x: u64, s: u64, n: usize) -> Digits
     requires { ⌜ (at + 10 ≤ length (now bytes)) × Begins (now bytes) at from × (isDigit (getD (now bytes) from 0) ≡ true) ⌝ }
     requires { ⌜ (x ≡ bitXor (eightWord (now bytes) at) 0x3030303030303030) × (s ≡ restStops x) × (n ≡ frontCount s) ⌝ }
-    ensures { λ r. ⌜ DigitsTo (now (bytes .entry)) from (r .end) (r .value) × (from < r .end) × (r .end ≤ at + 10) ⌝ }
+    ensures { λ r. ⌜ DigitsTo (now (bytes .entry)) from (r .end) (r .value) ⌝ }
+    ensures { λ r. ⌜ r .end ≡ digitsEnd (now (bytes .entry)) from (at + 10 - from) ⌝ }
 {
     let value = word_value((x - 29 * (from - at) as u64) << (64 - 8 * n));
     let ninth = bytes[at + 8] ^ 48;
@@ -369,26 +394,24 @@ fn front_digits(bytes: &[u8], at: usize, from: usize, x: u64, s: u64, n: usize) 
     }
 }
 
-// A number of at most ten digits that does not begin with 0, and the separator behind it, read straight. Any refusal says that none
-// was read so.
-pub fn digits_at(bytes: &[u8], at: usize, separator: u8) -> NumberRead
+// A number of at most ten bytes that does not begin with 0, and the separator behind it, where the longest has room.
+pub fn digits_at(bytes: &[u8], at: usize, separator: u8) -> Straight
     requires { ⌜ at ≤ length (now bytes) ⌝ }
-    ensures { λ r. ⌜ (r .refusal ≡ 0 → Closed (now (bytes .entry)) at separator (r .value) (r .at)) ⌝ }
-    ensures { λ r. ⌜ (r .refusal ≡ 0 → r .value ≡ pos 0 → ⊥) ⌝ }
+    ensures { λ r. ⌜ r ≡ digitsAt (now (bytes .entry)) at separator ⌝ }
 {
-    if bytes.len() - at < 12 {
-        return no_number(3);
+    if bytes.len() - at < LONGEST {
+        return Straight::Other;
     }
     if !is_separator(separator) {
-        return no_number(3);
+        return Straight::Other;
     }
     let from = after_sign(bytes, at);
     let first = bytes[from];
     if first == 48 {
-        return no_number(3);
+        return Straight::Other;
     }
     if !is_digit(first) {
-        return no_number(3);
+        return Straight::Other;
     }
     let x = eight_word(bytes, at) ^ 0x3030303030303030;
     let s = stops(x);
@@ -396,12 +419,25 @@ pub fn digits_at(bytes: &[u8], at: usize, separator: u8) -> NumberRead
     let d = front_digits(bytes, at, from, x, s, n);
     let end = d.end;
     if bytes[end] != separator {
-        return no_number(3);
+        return Straight::Other;
+    }
+    Straight::Number(Found {
+        value: signed_value(at < from, d.value),
+        at: end + 1,
+    })
+}
+
+// A number that was read with its separator, judged.
+pub fn judged(n: Found, judgement: u8) -> NumberRead
+    ensures { λ r. ⌜ Judged (n .value) (n .at) judgement (r .refusal) (r .value) (r .at) ⌝ }
+{
+    if judgement != 0 {
+        return no_number(judgement);
     }
     NumberRead {
         refusal: 0,
-        value: signed_value(at < from, d.value),
-        at: end + 1,
+        value: n.value,
+        at: n.at,
     }
 }
 
@@ -453,15 +489,11 @@ pub fn number_between(bytes: &[u8], at: usize, low: i64, high: i64, separator: u
     ensures { λ r. ⌜ Answers (now (bytes .entry)) (r .refusal) (r .value) (r .at) (field (between low high) (always separator) (drop at (now (bytes .entry)))) ⌝ }
     ensures { λ r. ⌜ Unread (r .refusal) (r .value) (r .at) ⌝ }
 {
-    let d = digit_at(bytes, at, separator);
-    if d.refusal == 0 {
-        if judge_between(low, high, d.value) == 0 {
-            return d;
-        }
-    }
-    let n = number_at(bytes, at);
-    let judgement = judge_between(low, high, n.value);
-    separated(bytes, n, judgement, separator)
+    let Straight::Number(d) = digit_at(bytes, at, separator) else {
+        let n = number_at(bytes, at);
+        return separated(bytes, n, judge_between(low, high, n.value), separator);
+    };
+    judged(d, judge_between(low, high, d.value))
 }
 
 // A coefficient that is not the last, or n0.
@@ -470,13 +502,9 @@ pub fn small_at(bytes: &[u8], at: usize) -> NumberRead
     ensures { λ r. ⌜ Answers (now (bytes .entry)) (r .refusal) (r .value) (r .at) (field judgeSmall (always 32) (drop at (now (bytes .entry)))) ⌝ }
     ensures { λ r. ⌜ Unread (r .refusal) (r .value) (r .at) ⌝ }
 {
-    let d = digit_at(bytes, at, 32);
-    if d.refusal == 0 {
-        if judge_small(d.value) == 0 {
-            return d;
-        }
-    }
-    let n = number_at(bytes, at);
-    let judgement = judge_small(n.value);
-    separated(bytes, n, judgement, 32)
+    let Straight::Number(d) = digit_at(bytes, at, 32) else {
+        let n = number_at(bytes, at);
+        return separated(bytes, n, judge_small(n.value), 32);
+    };
+    judged(d, judge_small(d.value))
 }

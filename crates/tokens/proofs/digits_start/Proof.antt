@@ -2,6 +2,7 @@
 -- Assumes nothing.
 use native.Mathlib.Omega.{arith}
 use Rattle.tokens.specs.Tokens.{digits-none}
+use Rattle.tokens.specs.Straight.{start-at}
 use borrow.Author.Needs.{needs}
 use Rattle.tokens.proofs.digits_start.Statement.{statement}
 use Rattle.tokens.proofs.digits_start.Tie as tie
@@ -10,7 +11,7 @@ after-sign-requires : tie.Need-after-sign-requires
 after-sign-requires c κs = search needs
 
 returns : tie.Need-returns
-returns c = c .after-sign .ensures .0
+returns c = rw (c .after-sign .ensures .0) (start-at _ _ (omega arith))
 
 returns-2 : tie.Need-returns-2
 returns-2 c = digits-none _ _ (omega arith)

@@ -1,6 +1,6 @@
 -- `tokens::front_digits` meets its contract. Eight bytes are read as one number, and two digits more may follow them.
 -- Assumes nothing.
-use mathlib.Core.Path.{_≡_, sym, subst}
+use mathlib.Core.Path.{_≡_, refl, sym, subst}
 use mathlib.Core.Bool.{Bool, true, false, _&&_, cond}
 use mathlib.Core.List.{List}
 use Prim.Native.Nat.{ℕ, _+_, _-_, _*_, _%_, _^_, _≤_, _<_}
@@ -10,10 +10,13 @@ use denote.Ref.{now}
 use mir.Val.{boolByte}
 use lib.Dec.{eqb, ltb}
 use lib.Bits.{bitXor}
-use lib.ListN.{getD}
+use lib.ListN.{length, getD}
 use Rattle.lists.specs.Tests.{both-true}
 use Rattle.tokens.specs.Tokens.{DigitsTo, digits-size}
-use Rattle.tokens.specs.Words.{wordValue, front-most, front-all, front-some, sign-less, near, shifted-small, front-read, more-read}
+use Rattle.tokens.specs.Straight.{front, front-end}
+use Rattle.tokens.specs.Words.{wordValue, front-most, front-all, front-some, front-stops, front-ended, sign-less, near, shifted-small}
+use Rattle.tokens.specs.Words.{front-read, more-read}
+use Rattle.rules.specs.Numbers.{isDigit}
 use borrow.Author.Needs.{needs}
 use Rattle.tokens.proofs.front_digits.Statement.{statement}
 use Rattle.tokens.proofs.front_digits.Tie as tie
@@ -43,6 +46,10 @@ module _ (k : tie.After-shared-slice-known) where
   some : s .args .from < s .args .at + s .args .n
   some = front-some bytes byte (s .args .at) (s .args .from) (s .args .x) (s .args .s) (s .args .n) (omega arith)
       (s .pre .0 .1) (s .pre .1 .0) (s .pre .1 .1) (s .pre .1 .2) (s .pre .0 .2)
+
+  stops : (s .args .s ≡ 0 → ⊥) → isDigit (getD bytes (s .args .at + s .args .n) 0) ≡ false
+  stops = front-stops bytes byte (s .args .at) (s .args .from) (s .args .x) (s .args .s) (s .args .n) (omega arith)
+      (s .pre .0 .1) (s .pre .1 .0) (s .pre .1 .1) (s .pre .1 .2)
 
   less : 29 * (s .args .from - s .args .at) ≤ s .args .x
   less = sign-less bytes byte (s .args .at) (s .args .from) (s .args .x) (s .args .s) (s .args .n) (omega arith)
@@ -145,6 +152,15 @@ module _ (k : tie.After-word-value) where
   end-most : s b .args .at + s b .args .n + boolByte (more b) + boolByte (last b) ≤ s b .args .at + 10
   end-most = omega (arith, most b, bit (more b), bit (last b))
 
+  ends : s b .args .at + s b .args .n + boolByte (more b) + boolByte (last b)
+      ≡ s b .args .from + length (front (bytes b) (s b .args .from) (s b .args .at + 10 - s b .args .from))
+  ends =
+      front-end (bytes b) (s b .args .at + 10 - s b .args .from) (s b .args .from)
+      (s b .args .at + s b .args .n + boolByte (more b) + boolByte (last b))
+      (omega (arith, some b)) (omega (arith, end-most)) (longest refl .all-digits) (omega (arith, end-most, close-by b))
+      (λ h. front-ended (bytes b) (byte b) (s b .args .at) (s b .args .s) (s b .args .n) (all b) (stops b) (more b) (last b) refl refl
+      (omega (arith, h, close-by b)))
+
 add-t12 : tie.Need-add-t12
 add-t12 c = omega (arith, end-most (c .before .before))
 
@@ -173,8 +189,7 @@ returns c =
     let a = s (b k) .args in (
       subst (λ v. DigitsTo (bytes (b k)) (a .from) (a .at + a .n + boolByte (more (b k)) + boolByte (last (b k))) v)
           (sym (c .one-more2 .ensures)) (longest k (c .before .one-more .ensures)),
-      omega (arith, some (b k)),
-      end-most k,
+      ends k,
     )
 
 pub front-digits-spec : {M : Type 1} → statement M

@@ -4,11 +4,12 @@ use mathlib.Core.Path.{_≡_, sym, _∙_}
 use mathlib.Core.Bool.{true}
 use Prim.Native.Nat.{_+_, _-_, _*_, _≤_}
 use native.Mathlib.Omega.{arith}
-use borrow.Author.Tests.{not-false}
+use borrow.Author.Tests.{not-false, not-true}
 use denote.Ref.{now}
 use lib.ListN.{getD}
 use Rattle.rules.specs.Numbers.{isDigit}
 use Rattle.tokens.specs.Tokens.{DigitsTo, digits-size, digits-go-on, digit-bounds}
+use Rattle.tokens.specs.Straight.{front-short, front-digit, front-none}
 use borrow.Author.Needs.{needs}
 use Rattle.tokens.proofs.with_digit.Statement.{statement}
 use Rattle.tokens.proofs.with_digit.Tie as tie
@@ -20,7 +21,10 @@ is-digit-requires : tie.Need-is-digit-requires
 is-digit-requires c κs = search needs
 
 returns : tie.Need-returns
-returns c = search needs
+returns c =
+    let s = c .before .before .before .before in
+    let none = sym (c .before .is-digit .ensures) ∙ not-true _ (c .if1 .taken) in
+    (s .pre .0, omega (arith, front-none (now (s .args .bytes)) 0 (s .args .d .end) none))
 
 add-t10 : tie.Need-add-t10
 add-t10 c = search needs
@@ -53,7 +57,11 @@ add-t13 : tie.Need-add-t13
 add-t13 c = omega (arith, digits-size _ _ _ _ (goes-on (c .before .before)), c .wide .ensures .0)
 
 returns-2 : tie.Need-returns-2
-returns-2 c = (rw (c .wide .ensures .0) (goes-on (c .before .before)), omega arith, omega arith)
+returns-2 c =
+    let e = c .before .before in
+    let bytes = now (s e .args .bytes) in
+    let end = s e .args .d .end in
+    (rw (c .wide .ensures .0) (goes-on e), omega (arith, front-digit bytes 0 end (digit e), front-short bytes 0 (end + 1)))
 
 pub with-digit-spec : {M : Type 1} → statement M
 with-digit-spec =
