@@ -167,6 +167,9 @@ impl Arguments {
         if let Some(more) = self.files.get(most) {
             return Err(End::Misused(format!("one argument too many: {}", shown(&more.to_string_lossy()))));
         }
+        if self.files.iter().filter(|file| *file == "-").count() > 1 {
+            return Err(End::Misused("standard input is read once, and `-` stands twice".into()));
+        }
         Ok(self.files.iter().map(|file| FileName::from(&file[..])).collect())
     }
 }

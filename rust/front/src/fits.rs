@@ -5,7 +5,7 @@
 
 use crate::command::{bytes_of, first, is_differential, named, Arguments, End, Outcome};
 use crate::output::shown;
-use crate::run::{counted, refused, system_of};
+use crate::run::{counted, names_for, refused, system_of};
 use wurgalm::{Answer, Record};
 
 /// A record that owns its values.
@@ -37,14 +37,27 @@ fn is_name(field: &str) -> bool {
     field.starts_with(|first: char| first.is_alphabetic() || first == '_') && field.parse::<f64>().is_err()
 }
 
+/// Names of columns, which are refused where they are those of the unknowns in another order.
+fn header(fields: &[&str], unknowns: &[String], line: usize) -> Result<(), String> {
+    let names: Vec<&str> = fields[1..].iter().map(|field| field.trim().trim_matches('"')).collect();
+    let are_unknowns = unknowns.iter().all(|unknown| names.contains(&&unknown[..]));
+    if are_unknowns && names != unknowns {
+        let (names, unknowns) = (shown(&names.join(", ")), unknowns.join(", "));
+        return Err(format!("line {line}: the columns are {names}, and the values are read as {unknowns}"));
+    }
+    Ok(())
+}
+
 /// A record in CSV.
-fn of_csv(text: &str, m: usize) -> Result<Recorded, String> {
+fn of_csv(text: &str, unknowns: &[String]) -> Result<Recorded, String> {
+    let m = unknowns.len();
     let mut recorded = Recorded { first: 0, vectors: 0, values: Vec::new() };
     let lines = text.lines().enumerate().filter(|(_, content)| !content.trim().is_empty());
     for (place, (at, content)) in lines.enumerate() {
         let (line, fields): (usize, Vec<&str>) = (at + 1, content.split(',').collect());
         if place == 0 && fields.len() == m + 1 && fields.iter().all(|field| is_name(field)) {
-            continue; // names of the columns
+            header(&fields, unknowns, line)?;
+            continue;
         }
         let numbers = fields.iter().map(|field| number(field, line)).collect::<Result<Vec<i64>, _>>()?;
         if numbers.len() != m + 1 {
@@ -63,7 +76,8 @@ fn of_csv(text: &str, m: usize) -> Result<Recorded, String> {
 }
 
 /// A record as text.
-fn of_text(text: &str, m: usize) -> Result<Recorded, String> {
+fn of_text(text: &str, unknowns: &[String]) -> Result<Recorded, String> {
+    let m = unknowns.len();
     let mut numbers = Vec::new();
     for (at, line) in text.lines().enumerate() {
         for word in line.split_ascii_whitespace() {
@@ -88,9 +102,10 @@ pub fn fits(mut arguments: Arguments) -> Outcome {
     let [model, record] = &files[..] else { return Err(End::Misused("MODEL and RECORD".into())) };
     let system = system_of(model, is_differential)?;
     let (bytes, sizes, name) = (bytes_of(record)?, system.sizes(), named(record));
+    let names = names_for(None, is_differential)?;
     let read = |text: String| {
         let reader = if as_csv || text.contains(',') { of_csv } else { of_text };
-        reader(&text, sizes.m)
+        reader(&text, &names[..sizes.m])
     };
     let recorded = text_of(bytes).and_then(read).map_err(|reason| End::Refused(format!("{name}: {reason}")))?;
     let Recorded { first, vectors, values } = &recorded;

@@ -26,7 +26,7 @@ const AWAITED: &str = "series,type";
 /// How long a case may take.
 const TIME: Duration = Duration::from_secs(10);
 /// Kilobytes of memory that all cases together may need.
-const MEMORY: usize = 400_000;
+const MEMORY: usize = 100_000;
 
 /// Numbers at the edges of what is read, with bars between them.
 const NUMBERS: &str = "0|1|-1|2|-2|3|-0|00|+1|7|16|17|64|65|400|401|1048576|1048577|268435455|268435456|-268435455|\
