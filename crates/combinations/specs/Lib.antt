@@ -1,5 +1,4 @@
 pub mod Combination
 pub mod Primitive
-pub mod InPlace
-pub mod Short
-pub mod ByParts
+pub mod Parts
+pub mod Undivided

@@ -86,7 +86,7 @@ primitive-kept l h = go (content l) h
 
 -- ---- the division, part by part
 
-divided-append : (d : ℕ) (p q : List ℤ) → divideBy d (p ++ q) ≡ divideBy d p ++ divideBy d q
+pub divided-append : (d : ℕ) (p q : List ℤ) → divideBy d (p ++ q) ≡ divideBy d p ++ divideBy d q
 unfolding divideBy
 divided-append d p q = map-append (λ a. quotZ a (pos d)) p q
 
@@ -140,7 +140,7 @@ content-below n (a ∷ l) m h = gcd-below n (natAbs a) (content l) (h 0) (conten
 
 -- ---- divisors of joined lists
 
-divides-append : (d : ℕ) (p q : List ℤ) → d ∣ content (p ++ q) → (d ∣ content p) × (d ∣ content q)
+pub divides-append : (d : ℕ) (p q : List ℤ) → d ∣ content (p ++ q) → (d ∣ content p) × (d ∣ content q)
 divides-append d p q h =
     let both = rw content-append at h in
     (dvd-trans d both (gcd-divides-left (content p) (content q)), dvd-trans d both (gcd-divides-right (content p) (content q)))

@@ -1,31 +1,31 @@
 // Rule 4: a combination of two rows, its division by the content and its limits.
 use polynomials::lengths::COEFFICIENTS;
 use stores::lengths::COLUMNS;
-use stores::lengths::POLYNOMIALS;
-use stores::lengths::ROW;
+use stores::lengths::ENTRIES;
+use working_rows::WorkingRow;
+use working_rows::limits::Worked;
 ghost use mathlib.Core.Path.{_≡_};
-ghost use mathlib.Core.Bool.{false, not, _&&_, cond};
-ghost use Prim.Native.Nat.{_+_, _*_, _/_, _^_, _≤_, _<_};
-ghost use lib.Dec.{T};
+ghost use mathlib.Core.Bool.{true, false, not, _&&_};
+ghost use Prim.Native.Nat.{_+_, _*_, _/_, _^_, _≤_, _<_, max};
+ghost use lib.Dec.{T, eqb};
 ghost use lib.IntN.{pos, natAbs};
 ghost use lib.ListN.{length, take, drop, replicate};
 ghost use lib.Signed.{ltZ};
 ghost use Rattle.algebra.specs.Polynomials.{isZero, add, mul};
 ghost use Rattle.algebra.specs.Gcd.{gcd, content, divideBy};
-ghost use Rattle.rules.specs.Limits.{small, coefficientCount, rowLength};
+ghost use Rattle.rules.specs.Limits.{small, coefficientCount, polynomialCount};
 ghost use Rattle.rules.specs.Rows.{combine, primitive};
+ghost use Rattle.rules.specs.Rows as Rows;
 ghost use Rattle.lists.specs.Tests.{every};
 ghost use Rattle.rules.specs.Stores.{rowOf};
 ghost use Rattle.rules.specs.Elimination.{limitCoefficients, limitDegrees, consistent};
-ghost use Rattle.stores.specs.Flat.{partCount};
-ghost use Rattle.working_rows.specs.Worked.{refusalOf, numbersOf};
+ghost use Rattle.working_rows.specs.Working.{numbersHeld, Full};
+ghost use Rattle.working_rows.specs.Worked.{refusalOf, workedRow};
 ghost use Rattle.combinations.specs.Combination.{few, bothWithin, trim, Shortened, lowPart, lowSums, Counted, highest};
 ghost use Rattle.combinations.specs.Combination.{combinations, lowNumbers};
-ghost use Rattle.combinations.specs.Primitive.{isLow, primitiveNumbers};
-ghost use Rattle.combinations.specs.InPlace.{partAt, rowAt, sumAt, withPart, placed, Known, PartFits, PartMade};
-ghost use Rattle.combinations.specs.InPlace.{RowsFit, RowMade, rowSums};
-ghost use Rattle.combinations.specs.ByParts.{Past, RowsUnused};
-ghost use Rattle.combinations.specs.Short.{SumsSaved};
+ghost use Rattle.combinations.specs.Primitive.{isLow};
+ghost use Rattle.combinations.specs.Parts.{sumOf, Known, SumsSaved, PartFits, PartMade, PartsFit, PartsMade};
+ghost use Rattle.combinations.specs.Undivided.{pastRow, undividedOf, RowsFit, Divisible, dividedRow};
 ghost use Rattle.polynomials.specs.Content.{Below};
 
 // The coefficients up to the highest nonzero one.
@@ -52,9 +52,6 @@ const NUMBER_SUMS: usize = SINGLE + SHORT - 1;
 const PAIR_SUMS: usize = PAIR + SHORT - 1;
 
 const FOUR_SUMS: usize = SHORT + SHORT - 1;
-
-// The polynomials of a row: the right side is the last.
-const PARTS: usize = ROW / COEFFICIENTS;
 
 // A front of the coefficients, with only zeros behind it. Where it can have four it has, since lengths of one to four are hard to
 // foretell, and a multiplication by 0 costs less than a wrong guess.
@@ -204,39 +201,12 @@ pub fn low_combination(
     false
 }
 
-// What is known of the polynomials that a combination has made: whether one has a degree past 15; if none has, their content, and whether their
-// coefficients are within ±C.
-pub struct Made {
-    pub beyond: bool,
-    pub content: u64,
-    pub within: bool,
-}
-
-// So many numbers of a store from a place on, where they stand.
-fn numbers_at(store: &[i64], at: usize, n: usize) -> &[i64]
-    requires { ⌜ at + n ≤ length (now store) ⌝ }
-    ensures { λ r. ⌜ now r ≡ take n (drop at (now (store .entry))) ⌝ }
-    ensures { λ r. ⌜ length (now r) ≡ n ⌝ }
-{
-    let end = at + n;
-    &store[at..end]
-}
-
-// The polynomial at place `a` of a store combined with that at place `b`, where it stands, unless its degree is past 15: is it?
-fn combine_part(rows: &mut [i64], a: usize, b: usize, g: &[i64], h: &[i64]) -> bool
-    requires { ⌜ PartFits a b (now g) (now h) (now rows) ⌝ }
-    ensures { λ r. ⌜ r ≡ not (isLow (sumAt (now (g .entry)) (now (h .entry)) (now (rows .entry)) a b)) ⌝ }
-    ensures { λ r. ⌜ now (rows .exit) ≡ cond r (now (rows .entry))
-        (withPart (now (rows .entry)) a (lowPart (sumAt (now (g .entry)) (now (h .entry)) (now (rows .entry)) a b))) ⌝ }
-{
-    let p = shortened(numbers_at(rows, a, COEFFICIENTS));
-    let q = shortened(numbers_at(rows, b, COEFFICIENTS));
-    let mut place = [0i64; COEFFICIENTS];
-    if put_low(&mut place, g, p, h, q) {
-        return true;
-    }
-    stores::rows::save(rows, a, &place[..]);
-    false
+// What is known of polynomials that a combination has made, and of those before them: whether one has a degree past 15; if none has,
+// their content, and whether their coefficients are within ±C.
+struct Made {
+    beyond: bool,
+    content: u64,
+    within: bool,
 }
 
 // The content of more numbers, where that of the others is d: once it is 1, they do not matter.
@@ -260,58 +230,12 @@ fn made_of(p: &[i64], d: u64, within: bool) -> Made
     }
 }
 
-// The same, with what is known of the polynomial afterwards and of those before it, whose content is d. Nothing is done where both are zero.
-fn add_part(
-    rows: &mut [i64],
-    a: usize,
-    b: usize,
-    g: &[i64],
-    h: &[i64],
-    d: u64,
-    within: bool,
-) -> Made
-    requires { ⌜ PartFits a b (now g) (now h) (now rows) ⌝ }
-    ensures { λ r. ⌜
-        PartMade (sumAt (now (g .entry)) (now (h .entry)) (now (rows .entry)) a b) d within a (now (rows .entry)) (now (rows .exit)) r ⌝ }
+// The sums at the front of a place, with what is known of them and of the numbers before.
+fn put_sums(place: &mut [i64], sums: &[i64], d: u64, within: bool) -> Made
+    requires { ⌜ length (now sums) ≤ length (now place) ⌝ }
+    ensures { λ r. ⌜ SumsSaved (now (sums .entry)) d within (now (place .entry)) (now (place .exit)) r ⌝ }
 {
-    if both_zero(
-        numbers_at(rows, a, COEFFICIENTS),
-        numbers_at(rows, b, COEFFICIENTS),
-    ) {
-        return Made {
-            beyond: false,
-            content: d,
-            within,
-        };
-    }
-    if combine_part(rows, a, b, g, h) {
-        return Made {
-            beyond: true,
-            content: d,
-            within,
-        };
-    }
-    made_of(numbers_at(rows, a, COEFFICIENTS), d, within)
-}
-
-// Have the polynomials at two places of a store no more than four coefficients?
-fn both_short(rows: &[i64], a: usize, b: usize) -> bool
-    requires { ⌜ (a + coefficientCount ≤ length (now rows)) × (b + coefficientCount ≤ length (now rows)) ⌝ }
-    ensures { λ r. ⌜ r ≡ bothWithin few (partAt (now (rows .entry)) a) (partAt (now (rows .entry)) b) ⌝ }
-{
-    both_within(
-        numbers_at(rows, a, COEFFICIENTS),
-        numbers_at(rows, b, COEFFICIENTS),
-        SHORT,
-    )
-}
-
-// The sums in their place, with their content and that of the numbers before them, d, and whether all are within ±C.
-fn save_sums(rows: &mut [i64], a: usize, sums: &[i64], d: u64, within: bool) -> Made
-    requires { ⌜ a + length (now sums) ≤ length (now rows) ⌝ }
-    ensures { λ r. ⌜ SumsSaved (now (sums .entry)) d within a (now (rows .entry)) (now (rows .exit)) r ⌝ }
-{
-    stores::rows::save(rows, a, sums);
+    stores::rows::save(place, 0, sums);
     made_of(sums, d, within)
 }
 
@@ -358,304 +282,221 @@ fn four_sums(g: &[i64], p: &[i64], h: &[i64], q: &[i64]) -> [i64; FOUR_SUMS]
     ]
 }
 
-// The same as `add_part` where the multipliers are numbers. Where the polynomials have four coefficients, which is most often the case, no
-// length has to be foretold, the sums are few, and behind them there are zeros already.
-fn number_part(
-    rows: &mut [i64],
-    a: usize,
-    b: usize,
-    g: &[i64],
-    h: &[i64],
-    d: u64,
-    within: bool,
-) -> Made
-    requires { ⌜ PartFits a b (now g) (now h) (now rows) ⌝ }
-    requires { ⌜ (length (now g) ≡ 1) × (length (now h) ≡ 1) ⌝ }
-    ensures { λ r. ⌜
-        PartMade (sumAt (now (g .entry)) (now (h .entry)) (now (rows .entry)) a b) d within a (now (rows .entry)) (now (rows .exit)) r ⌝ }
+// g·p + h·q in the place of p, unless its degree is past 15.
+fn any_part(place: &mut [i64], g: &[i64], h: &[i64], q: &[i64], d: u64, within: bool) -> Made
+    requires { ⌜ PartFits (now g) (now h) (now place) (now q) ⌝ }
+    ensures { λ r. ⌜ PartMade (sumOf (now (g .entry)) (now (h .entry)) (now (place .entry)) (now (q .entry))) d within
+        (now (place .entry)) (now (place .exit)) r ⌝ }
 {
-    if !both_short(rows, a, b) {
-        return add_part(rows, a, b, g, h, d, within);
+    let mut low = [0i64; COEFFICIENTS];
+    if put_low(&mut low, g, shortened(place), h, shortened(q)) {
+        return Made {
+            beyond: true,
+            content: d,
+            within,
+        };
     }
-    let p = numbers_at(rows, a, SHORT);
-    let q = numbers_at(rows, b, SHORT);
-    if both_zero(p, q) {
+    put_sums(place, &low[..], d, within)
+}
+
+// Have both multipliers so many coefficients?
+fn lengths_are(g: &[i64], h: &[i64], n: usize) -> bool
+    ensures { λ r. ⌜ r ≡ (eqb (length (now (g .entry))) n && eqb (length (now (h .entry))) n) ⌝ }
+{
+    g.len() == n && h.len() == n
+}
+
+// The same where p and q have four coefficients, which is most often the case: where g and h have one, two or four, the sums are few, and
+// no length has to be foretold.
+fn short_part(place: &mut [i64], g: &[i64], h: &[i64], q: &[i64], d: u64, within: bool) -> Made
+    requires { ⌜ PartFits (now g) (now h) (now place) (now q) × (bothWithin few (now place) (now q) ≡ true) ⌝ }
+    ensures { λ r. ⌜ PartMade (sumOf (now (g .entry)) (now (h .entry)) (now (place .entry)) (now (q .entry))) d within
+        (now (place .entry)) (now (place .exit)) r ⌝ }
+{
+    if lengths_are(g, h, SINGLE) {
+        let sums = number_sums(g, &place[..SHORT], h, &q[..SHORT]);
+        return put_sums(place, &sums[..], d, within);
+    }
+    if lengths_are(g, h, PAIR) {
+        let sums = pair_sums(g, &place[..SHORT], h, &q[..SHORT]);
+        return put_sums(place, &sums[..], d, within);
+    }
+    if lengths_are(g, h, SHORT) {
+        let sums = four_sums(g, &place[..SHORT], h, &q[..SHORT]);
+        return put_sums(place, &sums[..], d, within);
+    }
+    any_part(place, g, h, q, d, within)
+}
+
+// The same by whichever fits the lengths. Nothing is done where p and q are zero.
+fn put_part(place: &mut [i64], g: &[i64], h: &[i64], q: &[i64], d: u64, within: bool) -> Made
+    requires { ⌜ PartFits (now g) (now h) (now place) (now q) ⌝ }
+    ensures { λ r. ⌜ PartMade (sumOf (now (g .entry)) (now (h .entry)) (now (place .entry)) (now (q .entry))) d within
+        (now (place .entry)) (now (place .exit)) r ⌝ }
+{
+    if both_zero(place, q) {
         return Made {
             beyond: false,
             content: d,
             within,
         };
     }
-    let sums = number_sums(g, p, h, q);
-    save_sums(rows, a, &sums[..], d, within)
+    if both_within(place, q, SHORT) {
+        return short_part(place, g, h, q, d, within);
+    }
+    any_part(place, g, h, q, d, within)
 }
 
-// The same for multipliers of two coefficients.
-fn pair_part(
-    rows: &mut [i64],
-    a: usize,
-    b: usize,
+// The polynomials g·p + h·q of two lists, each in the place of its p, up to the first whose degree is past 15. Behind the first `count` both
+// lists have zeros only. d and `within` are of numbers before.
+fn put_parts(
+    place: &mut [i64],
     g: &[i64],
     h: &[i64],
+    pivot: &[i64],
+    count: usize,
     d: u64,
     within: bool,
-) -> Made
-    requires { ⌜ PartFits a b (now g) (now h) (now rows) ⌝ }
-    requires { ⌜ (length (now g) ≡ 2) × (length (now h) ≡ 2) ⌝ }
-    ensures { λ r. ⌜
-        PartMade (sumAt (now (g .entry)) (now (h .entry)) (now (rows .entry)) a b) d within a (now (rows .entry)) (now (rows .exit)) r ⌝ }
-{
-    if !both_short(rows, a, b) {
-        return add_part(rows, a, b, g, h, d, within);
-    }
-    let p = numbers_at(rows, a, SHORT);
-    let q = numbers_at(rows, b, SHORT);
-    if both_zero(p, q) {
-        return Made {
-            beyond: false,
-            content: d,
-            within,
-        };
-    }
-    let sums = pair_sums(g, p, h, q);
-    save_sums(rows, a, &sums[..], d, within)
-}
-
-// The same for multipliers of four.
-fn four_part(
-    rows: &mut [i64],
-    a: usize,
-    b: usize,
-    g: &[i64],
-    h: &[i64],
-    d: u64,
-    within: bool,
-) -> Made
-    requires { ⌜ PartFits a b (now g) (now h) (now rows) ⌝ }
-    requires { ⌜ (length (now g) ≡ few) × (length (now h) ≡ few) ⌝ }
-    ensures { λ r. ⌜
-        PartMade (sumAt (now (g .entry)) (now (h .entry)) (now (rows .entry)) a b) d within a (now (rows .entry)) (now (rows .exit)) r ⌝ }
-{
-    if !both_short(rows, a, b) {
-        return add_part(rows, a, b, g, h, d, within);
-    }
-    let p = numbers_at(rows, a, SHORT);
-    let q = numbers_at(rows, b, SHORT);
-    if both_zero(p, q) {
-        return Made {
-            beyond: false,
-            content: d,
-            within,
-        };
-    }
-    let sums = four_sums(g, p, h, q);
-    save_sums(rows, a, &sums[..], d, within)
-}
-
-// Is the polynomial at a place of a row in use, where the first m columns of the first span + 1 blocks are? The right side, the last, is.
-fn in_use(e: usize, m: usize, span: usize) -> bool
-    requires { ⌜ e < partCount ⌝ }
-    ensures { λ r. ⌜ (r ≡ false → Past m span e) ⌝ }
-{
-    if e == POLYNOMIALS {
-        return true;
-    }
-    if span < e / COLUMNS {
-        return false;
-    }
-    e % COLUMNS < m
-}
-
-// The polynomials of the row at a place of a store combined with those of a row before it, where they stand, up to the first whose degree is
-// past 15. Those that are not in use stay.
-fn combine_by_any(
-    rows: &mut [i64],
-    at: usize,
-    from: usize,
-    g: &[i64],
-    h: &[i64],
-    m: usize,
-    span: usize,
-) -> Made
-    requires { ⌜ RowsFit at from (now g) (now h) (now rows) ⌝ }
-    requires { ⌜ RowsUnused m span at from (now rows) ⌝ }
-    ensures { λ r. ⌜
-        RowMade (rowSums (now (g .entry)) (now (h .entry)) (now (rows .entry)) at from) at (now (rows .entry)) (now (rows .exit)) r ⌝ }
-{
-    let mut d = 0;
-    let mut within = true;
-    let mut e = 0;
-    while e < PARTS {
-        if !in_use(e, m, span) {
-            e += 1;
-            continue;
-        }
-        let k = e * COEFFICIENTS;
-        let made = add_part(rows, at + k, from + k, g, h, d, within);
-        if made.beyond {
-            return made;
-        }
-        d = made.content;
-        within = made.within;
-        e += 1;
-    }
-    Made {
-        beyond: false,
-        content: d,
-        within,
-    }
-}
-
-// The same where the multipliers are numbers. There is a loop for each length of the multipliers, which is tested once for the row and not
-// for each polynomial.
-fn combine_by_numbers(
-    rows: &mut [i64],
-    at: usize,
-    from: usize,
-    g: &[i64],
-    h: &[i64],
-    m: usize,
-    span: usize,
-) -> Made
-    requires { ⌜ RowsFit at from (now g) (now h) (now rows) ⌝ }
-    requires { ⌜ RowsUnused m span at from (now rows) ⌝ }
-    requires { ⌜ (length (now g) ≡ 1) × (length (now h) ≡ 1) ⌝ }
-    ensures { λ r. ⌜
-        RowMade (rowSums (now (g .entry)) (now (h .entry)) (now (rows .entry)) at from) at (now (rows .entry)) (now (rows .exit)) r ⌝ }
-{
-    let mut d = 0;
-    let mut within = true;
-    let mut e = 0;
-    while e < PARTS {
-        if !in_use(e, m, span) {
-            e += 1;
-            continue;
-        }
-        let k = e * COEFFICIENTS;
-        let made = number_part(rows, at + k, from + k, g, h, d, within);
-        if made.beyond {
-            return made;
-        }
-        d = made.content;
-        within = made.within;
-        e += 1;
-    }
-    Made {
-        beyond: false,
-        content: d,
-        within,
-    }
-}
-
-// The same for multipliers of two coefficients.
-fn combine_by_pairs(
-    rows: &mut [i64],
-    at: usize,
-    from: usize,
-    g: &[i64],
-    h: &[i64],
-    m: usize,
-    span: usize,
-) -> Made
-    requires { ⌜ RowsFit at from (now g) (now h) (now rows) ⌝ }
-    requires { ⌜ RowsUnused m span at from (now rows) ⌝ }
-    requires { ⌜ (length (now g) ≡ 2) × (length (now h) ≡ 2) ⌝ }
-    ensures { λ r. ⌜
-        RowMade (rowSums (now (g .entry)) (now (h .entry)) (now (rows .entry)) at from) at (now (rows .entry)) (now (rows .exit)) r ⌝ }
-{
-    let mut d = 0;
-    let mut within = true;
-    let mut e = 0;
-    while e < PARTS {
-        if !in_use(e, m, span) {
-            e += 1;
-            continue;
-        }
-        let k = e * COEFFICIENTS;
-        let made = pair_part(rows, at + k, from + k, g, h, d, within);
-        if made.beyond {
-            return made;
-        }
-        d = made.content;
-        within = made.within;
-        e += 1;
-    }
-    Made {
-        beyond: false,
-        content: d,
-        within,
-    }
-}
-
-// The same for multipliers of four.
-fn combine_by_fours(
-    rows: &mut [i64],
-    at: usize,
-    from: usize,
-    g: &[i64],
-    h: &[i64],
-    m: usize,
-    span: usize,
-) -> Made
-    requires { ⌜ RowsFit at from (now g) (now h) (now rows) ⌝ }
-    requires { ⌜ RowsUnused m span at from (now rows) ⌝ }
-    requires { ⌜ (length (now g) ≡ few) × (length (now h) ≡ few) ⌝ }
-    ensures { λ r. ⌜
-        RowMade (rowSums (now (g .entry)) (now (h .entry)) (now (rows .entry)) at from) at (now (rows .entry)) (now (rows .exit)) r ⌝ }
-{
-    let mut d = 0;
-    let mut within = true;
-    let mut e = 0;
-    while e < PARTS {
-        if !in_use(e, m, span) {
-            e += 1;
-            continue;
-        }
-        let k = e * COEFFICIENTS;
-        let made = four_part(rows, at + k, from + k, g, h, d, within);
-        if made.beyond {
-            return made;
-        }
-        d = made.content;
-        within = made.within;
-        e += 1;
-    }
-    Made {
-        beyond: false,
-        content: d,
-        within,
-    }
-}
-
-// The same by the loop that fits the multipliers.
-fn combine_parts(
-    rows: &mut [i64],
-    at: usize,
-    from: usize,
-    g: &[i64],
-    h: &[i64],
-    m: usize,
-    span: usize,
 ) -> Made
     requires { ⌜
-        (length (now g) ≡ coefficientCount) × T (every small (now g)) × (length (now h) ≡ coefficientCount) × T (every small (now h)) ⌝ }
-    requires { ⌜
-        (from + rowLength ≤ at) × (at + rowLength ≤ length (now rows)) × T (every small (rowAt (now rows) at))
-        × T (every small (rowAt (now rows) from)) ⌝ }
-    requires { ⌜ RowsUnused m span at from (now rows) ⌝ }
-    ensures { λ r. ⌜ RowMade (combinations partCount (now (g .entry)) (now (h .entry)) (rowAt (now (rows .entry)) at)
-        (rowAt (now (rows .entry)) from)) at (now (rows .entry)) (now (rows .exit)) r ⌝ }
+        (count ≤ polynomialCount) × (count * coefficientCount ≤ length (now place)) × (length (now pivot) ≡ length (now place)) ⌝ }
+    requires { ⌜ PartsFit count (now g) (now h) (now place) (now pivot) ⌝ }
+    ensures { λ r. ⌜ PartsMade (combinations (length (now (place .entry)) / coefficientCount) (now (g .entry)) (now (h .entry))
+        (now (place .entry)) (now (pivot .entry))) d within (now (place .exit)) r ⌝ }
+{
+    let mut content = d;
+    let mut small = within;
+    let mut e = 0;
+    while e < count {
+        let from = e * COEFFICIENTS;
+        let to = from + COEFFICIENTS;
+        let made = put_part(&mut place[from..to], g, h, &pivot[from..to], content, small);
+        if made.beyond {
+            return made;
+        }
+        content = made.content;
+        small = made.within;
+        e += 1;
+    }
+    Made {
+        beyond: false,
+        content,
+        within: small,
+    }
+}
+
+// How many coefficients of both multipliers are gone over: one, two or four where there are no more.
+fn common_length(g: &[i64], h: &[i64]) -> usize
+    requires { ⌜ (length (now g) ≡ coefficientCount) × (length (now h) ≡ coefficientCount) ⌝ }
+    ensures { λ r. ⌜ (0 < r) × (r ≤ coefficientCount) × (bothWithin r (now (g .entry)) (now (h .entry)) ≡ true) ⌝ }
 {
     if both_within(g, h, SINGLE) {
-        return combine_by_numbers(rows, at, from, &g[..SINGLE], &h[..SINGLE], m, span);
+        return SINGLE;
     }
     if both_within(g, h, PAIR) {
-        return combine_by_pairs(rows, at, from, &g[..PAIR], &h[..PAIR], m, span);
+        return PAIR;
     }
     if both_within(g, h, SHORT) {
-        return combine_by_fours(rows, at, from, &g[..SHORT], &h[..SHORT], m, span);
+        return SHORT;
     }
-    combine_by_any(rows, at, from, trimmed(g), trimmed(h), m, span)
+    COEFFICIENTS
+}
+
+// Its first n coefficients, where the others are zero; where n is all of them, those up to the highest nonzero one.
+fn front_of(p: &[i64], n: usize) -> &[i64]
+    requires { ⌜ (length (now p) ≡ coefficientCount) × (0 < n) × (n ≤ coefficientCount) × T (isZero (drop n (now p))) ⌝ }
+    ensures { λ r. ⌜ Shortened (now r) (now (p .entry)) ⌝ }
+{
+    if n < COEFFICIENTS {
+        return &p[..n];
+    }
+    trimmed(p)
+}
+
+// The row g × target + h × pivot, not yet divided: whether a degree is past 15; if none is, its content, whether its coefficients are
+// within ±C, and the row.
+pub struct Combination {
+    pub beyond: bool,
+    pub content: u64,
+    pub within: bool,
+    pub row: WorkingRow,
+}
+
+fn past() -> Combination
+    ensures { λ r. ⌜ r ≡ pastRow ⌝ }
+{
+    let row = WorkingRow {
+        entries: [0; ENTRIES],
+        right: [0; COEFFICIENTS],
+        width: 0,
+    };
+    Combination {
+        beyond: true,
+        content: 0,
+        within: true,
+        row,
+    }
+}
+
+fn wider(a: usize, b: usize) -> usize
+    ensures { λ r. ⌜ r ≡ max a b ⌝ }
+{
+    if a < b { b } else { a }
+}
+
+// Rule 4's row before its division (SCOPE 2.41, 2.43). The pivot is looked at where it stands; `width` is its width.
+pub fn undivided(
+    g: &[i64],
+    h: &[i64],
+    target: WorkingRow,
+    pivot: &[i64],
+    width: usize,
+) -> Combination
+    requires { ⌜ RowsFit (now g) (now h) target (now pivot) width ⌝ }
+    ensures { λ r. ⌜ r ≡ undividedOf (now (g .entry)) (now (h .entry)) (numbersHeld target) (now (pivot .entry)) ⌝ }
+{
+    let n = common_length(g, h);
+    let a = front_of(g, n);
+    let b = front_of(h, n);
+    let blocks = wider(target.width, width);
+    let mut entries = target.entries;
+    let mut right = target.right;
+    let left = put_parts(
+        &mut entries,
+        a,
+        b,
+        &pivot[..ENTRIES],
+        blocks * COLUMNS,
+        0,
+        true,
+    );
+    if left.beyond {
+        return past();
+    }
+    let all = put_parts(
+        &mut right,
+        a,
+        b,
+        &pivot[ENTRIES..],
+        1,
+        left.content,
+        left.within,
+    );
+    if all.beyond {
+        return past();
+    }
+    let after = working_rows::entries::width_within(&entries[..], blocks);
+    let row = WorkingRow {
+        entries,
+        right,
+        width: after,
+    };
+    Combination {
+        beyond: false,
+        content: all.content,
+        within: all.within,
+        row,
+    }
 }
 
 // The coefficients up to the highest nonzero one divided by d; the zeros behind stay.
@@ -670,13 +511,16 @@ fn divide_part(p: &mut [i64], d: i64)
     polynomials::content::divide_in_place(&mut p[..n], d);
 }
 
-// The numbers of a row divided by d, polynomial by polynomial.
-fn divide_parts(numbers: &mut [i64], d: i64)
-    requires { ⌜ (length (now numbers) ≡ rowLength) × Below (2 ^ 63) (now numbers) × T (ltZ (pos 0) d) ⌝ }
+// The polynomials of a list divided by d. Behind the first `count` there are zeros only.
+fn divide_parts(numbers: &mut [i64], count: usize, d: i64)
+    requires { ⌜
+        (count ≤ polynomialCount) × (count * coefficientCount ≤ length (now numbers))
+        × T (isZero (drop (count * coefficientCount) (now numbers))) ⌝ }
+    requires { ⌜ Below (2 ^ 63) (now numbers) × T (ltZ (pos 0) d) ⌝ }
     ensures { λ _. ⌜ now (numbers .exit) ≡ divideBy (natAbs d) (now (numbers .entry)) ⌝ }
 {
     let mut e = 0;
-    while e < PARTS {
+    while e < count {
         let from = e * COEFFICIENTS;
         let to = from + COEFFICIENTS;
         divide_part(&mut numbers[from..to], d);
@@ -684,61 +528,69 @@ fn divide_parts(numbers: &mut [i64], d: i64)
     }
 }
 
-// The numbers of a new row divided by their content d (SCOPE 2.42), and the number of the limit that they break then, or 0. `within` says
-// whether they are within ±C before the division; where they are, they are so behind it, and need not be looked through again.
-fn limit_row(numbers: &mut [i64], d: u64, within: bool) -> u8
-    requires { ⌜ (length (now numbers) ≡ rowLength) × Below (2 ^ 63) (now numbers) ⌝ }
-    requires { ⌜ (d ≡ content (now numbers)) × (within ≡ every small (now numbers)) ⌝ }
-    ensures { λ r. ⌜ r ≡ refusalOf (consistent (limitCoefficients (rowOf (primitiveNumbers (now (numbers .entry)))))) ⌝ }
-    ensures { λ _. ⌜ now (numbers .exit) ≡ primitiveNumbers (now (numbers .entry)) ⌝ }
+// A row within its limits: a coefficient past ±C is refused with 8, a row whose left part alone is zero with 10 (SCOPE 2.44, 2.46).
+fn limited(row: WorkingRow, within: bool) -> Worked
+    requires { ⌜
+        Full row × (row .width ≡ Rows.width (rowOf (row .entries))) × (within ≡ every small (numbersHeld row)) ⌝ }
+    ensures { λ r. ⌜ r .refusal ≡ refusalOf (consistent (limitCoefficients (rowOf (numbersHeld row)))) ⌝ }
+    ensures { λ r. ⌜ r .row ≡ workedRow (consistent (limitCoefficients (rowOf (numbersHeld row)))) ⌝ }
 {
-    if 1 < d {
-        divide_parts(numbers, d as i64);
-        if !within {
-            return working_rows::limits::refusal(numbers);
-        }
-        return working_rows::limits::contradiction(numbers);
-    }
     if !within {
-        return 8;
+        return working_rows::limits::broken(8);
     }
-    working_rows::limits::contradiction(numbers)
+    if row.width == 0 {
+        if !polynomials::content::is_zero(&row.right) {
+            return working_rows::limits::broken(10);
+        }
+    }
+    Worked { refusal: 0, row }
 }
 
-// The row at place `at` of a store becomes g × itself + h × the row at `from`, which stands before it, divided by the content (SCOPE 2.41,
-// 2.42). A degree past 15 is refused with 7; if there is none, a coefficient past ±C with 8; a row whose left part alone is zero with 10
-// (SCOPE 2.43, 2.44, 2.46). A refusal leaves zeros in its place. The division does not change a degree, so the degrees are looked at first.
-// Only the first m columns of the first span + 1 blocks are in use.
-pub fn combine_rows(
-    rows: &mut [i64],
-    at: usize,
-    from: usize,
-    g: &[i64],
-    h: &[i64],
-    m: usize,
-    span: usize,
-) -> u8
-    requires { ⌜
-        (length (now g) ≡ coefficientCount) × T (every small (now g)) × (length (now h) ≡ coefficientCount) × T (every small (now h)) ⌝ }
-    requires { ⌜
-        (from + rowLength ≤ at) × (at + rowLength ≤ length (now rows)) × T (every small (rowAt (now rows) at))
-        × T (every small (rowAt (now rows) from)) ⌝ }
-    requires { ⌜ RowsUnused m span at from (now rows) ⌝ }
-    ensures { λ r. ⌜ r ≡ refusalOf (consistent (limitDegrees (primitive (combine (now (g .entry)) (now (h .entry))
-        (rowOf (rowAt (now (rows .entry)) at)) (rowOf (rowAt (now (rows .entry)) from)))))) ⌝ }
-    ensures { λ r. ⌜ now (rows .exit) ≡ placed (now (rows .entry)) at r
-        (numbersOf (consistent (limitDegrees (primitive (combine (now (g .entry)) (now (h .entry))
-        (rowOf (rowAt (now (rows .entry)) at)) (rowOf (rowAt (now (rows .entry)) from))))))) ⌝ }
+// Are all numbers of both parts within ±C?
+fn both_small(entries: &[i64], right: &[i64]) -> bool
+    ensures { λ r. ⌜ r ≡ (every small (now (entries .entry)) && every small (now (right .entry))) ⌝ }
 {
-    let made = combine_parts(rows, at, from, g, h, m, span);
-    if made.beyond {
-        stores::rows::clear(rows, at, ROW);
-        return 7;
+    stores::checks::all_small(entries) && stores::checks::all_small(right)
+}
+
+// A row divided by d, which divides all its coefficients (SCOPE 2.42), within its limits.
+fn divided(row: WorkingRow, d: i64) -> Worked
+    requires { ⌜ Divisible row d ⌝ }
+    ensures { λ r. ⌜ r .refusal ≡ refusalOf (consistent (limitCoefficients (dividedRow row d))) ⌝ }
+    ensures { λ r. ⌜ r .row ≡ workedRow (consistent (limitCoefficients (dividedRow row d))) ⌝ }
+{
+    let width = row.width;
+    let mut entries = row.entries;
+    let mut right = row.right;
+    divide_parts(&mut entries, width * COLUMNS, d);
+    divide_part(&mut right, d);
+    let within = both_small(&entries[..], &right[..]);
+    let new = WorkingRow {
+        entries,
+        right,
+        width,
+    };
+    limited(new, within)
+}
+
+// The row g × target + h × pivot divided by its content (SCOPE 2.41, 2.42). A degree past 15 is refused with 7; if there is none, a
+// coefficient past ±C with 8; a row whose left part alone is zero with 10 (SCOPE 2.43, 2.44, 2.46). The division does not change a
+// degree, so the degrees are looked at first.
+pub fn combined(g: &[i64], h: &[i64], target: WorkingRow, pivot: &[i64], width: usize) -> Worked
+    requires { ⌜ RowsFit (now g) (now h) target (now pivot) width ⌝ }
+    ensures { λ r. ⌜ r .refusal ≡ refusalOf (consistent (limitDegrees (primitive (combine (now (g .entry)) (now (h .entry))
+        (rowOf (numbersHeld target)) (rowOf (now (pivot .entry))))))) ⌝ }
+    ensures { λ r. ⌜ r .row ≡ workedRow (consistent (limitDegrees (primitive (combine (now (g .entry)) (now (h .entry))
+        (rowOf (numbersHeld target)) (rowOf (now (pivot .entry))))))) ⌝ }
+{
+    let u = undivided(g, h, target, pivot, width);
+    if u.beyond {
+        return working_rows::limits::broken(7);
     }
-    let end = at + ROW;
-    let refusal = limit_row(&mut rows[at..end], made.content, made.within);
-    if refusal != 0 {
-        stores::rows::clear(rows, at, ROW);
+    let row = u.row;
+    let d = u.content;
+    if 1 < d {
+        return divided(row, d as i64);
     }
-    refusal
+    limited(row, u.within)
 }

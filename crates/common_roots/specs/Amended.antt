@@ -2,92 +2,52 @@
 --
 -- Main definitions
 --   both a b              the entries a, of row j, and b, of row i
---   rootsAlone w          what the finder lists, without how often each root occurs
 --
 -- Main statements
---   roots-alone, times-at  numbers, and how often each occurs as a root of a polynomial, in the finder's arrays
---   reduced-each          the division at the common roots, for 16 coefficients
+--   reduced-each          the division at the common roots is the division at the roots of a, for 16 coefficients
 --   multipliers-plain         where no root is common, the ratio of a and b as they are
---   common-few, common-within   there are few common roots, all within ±C
---   common-pivot          where there is one, a is not zero
---   multipliers-roots         the roots of g are those of a at which what is left of a vanishes
-use Prim.Native.Nat.{ℕ, _-_, _<_}
-use mathlib.Core.Path.{_≡_, refl, sym, _∙_, ap, ap₂}
+--   found-pivot           where a has a root, it is not zero
+--   multipliers-roots         the roots of g are those of a that what is left of a still has, as often as it has them
+use Prim.Native.Nat.{_<_}
+use mathlib.Core.Path.{_≡_, refl, sym, _∙_, ap}
 use mathlib.Core.Bool.{not}
-use mathlib.Core.List.{List, [], _∷_, _++_, map, map-map, map-id}
-use native.Mathlib.Nat.{le-of-eq}
+use mathlib.Core.List.{List, [], _∷_, _++_, map}
 use native.Mathlib.Omega.{arith}
 use lib.Dec.{T, T-not, not-T}
 use lib.Ieee.Fits.{and-l}
-use lib.IntN.{ℤ, pos, negℤ}
-use lib.ListN.{length, getD, length-map, replicate, List·getD-append}
+use lib.IntN.{pos, negℤ}
+use lib.ListN.{length}
 use Rattle.algebra.specs.Coefficients.{degree-isZero}
 use Rattle.algebra.specs.Polynomials.{Polynomial, isZero, isZero-append}
 use Rattle.algebra.specs.Roots.{roots}
-use Rattle.algebra.specs.Multiplicity.{multiplicity}
-use Rattle.lists.specs.Images.{getD-map}
 use Rattle.lists.specs.Sifted.{keep}
 use Rattle.lists.specs.Taken.{length-none}
-use Rattle.lists.specs.Tests.{every}
-use Rattle.rules.specs.Limits.{bound, small, coefficientCount}
-use Rattle.rules.specs.Elimination.{Multipliers, ratio, multipliers}
+use Rattle.rules.specs.Limits.{bound, coefficientCount}
+use Rattle.rules.specs.Elimination.{Multipliers, ratio, multipliers, rootsWith}
 use Rattle.rules.specs.CommonRoots.{Entries, divideEach, commonRoots, reduced}
-use Rattle.theory.specs.Reduced.{reduced-nonzero}
-use Rattle.roots.specs.declared.RootList.{RootList}
-use Rattle.roots.specs.RootSearch.{listed, roots-constant, roots-few}
-use Rattle.multiplicities.specs.declared.RootsWith.{RootsWith}
-use Rattle.multiplicities.specs.Counts.{listedWith, timesIn, roots-within}
-use Rattle.common_roots.specs.Divisions.{vanishesAt}
-use Rattle.common_roots.specs.Kept.{length-keep, every-keep, roots-reduced, roots-ratio}
+use Rattle.theory.specs.Reduced.{reduced-nonzero, length-reduced}
+use Rattle.roots.specs.RootSearch.{roots-constant}
+use Rattle.multiplicities.specs.Counts.{timesIn}
+use Rattle.common_roots.specs.DividedTimes.{divideEach-common}
+use Rattle.common_roots.specs.Kept.{occurs, occurring-times, roots-reduced, rootsWith-ratio}
 
 abbrev pub both : Polynomial → Polynomial → Entries
 both a b = record { pivot = a; target = b }
 
--- What the finder lists, without how often each root occurs.
-abbrev pub rootsAlone : RootsWith → RootList
-rootsAlone w = record { count = w .count; values = w .values }
-
-pub roots-alone : {w : RootsWith} (p : Polynomial) (rs : List ℤ) → w ≡ listedWith (timesIn p rs) → rootsAlone w ≡ listed rs
-roots-alone p rs e =
-    ap rootsAlone e
-    ∙ ap₂ (λ n l. record { count = n; values = l ++ replicate (16 - n) (pos 0) }) (length-map rs (λ r. (r, multiplicity p r)))
-    (map-map (λ x. x .0) (λ r. (r, multiplicity p r)) rs ∙ map-id rs)
-
-pub times-at : {w : RootsWith} (p : Polynomial) (rs : List ℤ) → w ≡ listedWith (timesIn p rs) → (i : ℕ) → i < length rs
-    → getD (w .times) i 0 ≡ multiplicity p (getD rs i (pos 0))
-times-at p rs e i h =
-    ap (λ v. getD (v .times) i 0) e
-    ∙ List·getD-append (map (λ x. x .1) pairs) (replicate (16 - length pairs) 0) 0 i (omega (arith, length-map pairs (λ x. x .1), size))
-    ∙ ap (λ l. getD l i 0) (map-map (λ x. x .1) (λ r. (r, multiplicity p r)) rs) ∙ getD-map (multiplicity p) rs i (pos 0) 0 h
-  where
-    pairs : List (ℤ × ℕ)
-    pairs = timesIn p rs
-
-    size : length pairs ≡ length rs
-    size = length-map rs (λ r. (r, multiplicity p r))
-
 module _ (a b : Polynomial) where
-  pub reduced-each : length a ≡ coefficientCount → divideEach coefficientCount (commonRoots (both a b)) (both a b) ≡ reduced (both a b)
-  unfolding reduced
-  reduced-each e = ap (λ k. divideEach k (commonRoots (both a b)) (both a b)) (sym e)
+  pub reduced-each : length a ≡ coefficientCount → divideEach coefficientCount (roots a) (both a b) ≡ reduced (both a b)
+  unfolding reduced commonRoots
+  reduced-each e =
+      divideEach-common coefficientCount (roots a) b (both a b) (λ x root. root)
+      ∙ ap (λ k. divideEach k (commonRoots (both a b)) (both a b)) (sym e)
 
   pub multipliers-plain : length (commonRoots (both a b)) ≡ 0 → multipliers a b ≡ ratio a b
   unfolding multipliers reduced divideEach
   multipliers-plain none =
       ap (λ l. let e = divideEach (length a) l (both a b) in ratio (e .pivot) (e .target)) (length-none (commonRoots (both a b)) none)
 
-  pub common-few : length a ≡ coefficientCount → length (commonRoots (both a b)) < 16
-  unfolding commonRoots
-  common-few e = omega (arith, length-keep (vanishesAt b) (roots a), roots-few a (le-of-eq e))
-
-  pub common-within : T (every small a) → T (every small (commonRoots (both a b)))
-  unfolding commonRoots
-  common-within t = every-keep (vanishesAt b) small (roots a) (roots-within a t)
-
-  pub common-pivot : 0 < length (commonRoots (both a b)) → T (not (isZero a))
-  unfolding commonRoots keep
-  common-pivot some =
-      not-T (isZero a) (λ z. omega (arith, ap (λ l. length (keep (vanishesAt b) l)) (roots-constant a (degree-isZero a z))))
+  pub found-pivot : 0 < length (roots a) → T (not (isZero a))
+  found-pivot some = not-T (isZero a) (λ z. omega (arith, ap length (roots-constant a (degree-isZero a z))))
 
   module _ (nonzero : T (not (isZero a))) where
     pub reduced-not-both : T (not (isZero (reduced (both a b) .pivot ++ reduced (both a b) .target)))
@@ -97,10 +57,13 @@ module _ (a b : Polynomial) where
         not-T (isZero (p ++ q))
         (λ z. T-not (isZero p) (reduced-nonzero (both a b) nonzero) (and-l (isZero p) (isZero q) (rw (isZero-append p q) at z)))
 
-    pub multipliers-roots : roots (multipliers a b .g) ≡ keep (vanishesAt (reduced (both a b) .pivot)) (roots a)
-    unfolding multipliers
-    multipliers-roots =
-        roots-ratio (reduced (both a b) .pivot) (reduced (both a b) .target) reduced-not-both ∙ roots-reduced (both a b) nonzero
+    pub multipliers-roots : 0 < length a → rootsWith (multipliers a b .g) ≡ keep occurs (timesIn (reduced (both a b) .pivot) (roots a))
+    unfolding multipliers rootsWith
+    multipliers-roots some =
+        let p = reduced (both a b) .pivot in
+        rootsWith-ratio p (reduced (both a b) .target) reduced-not-both (reduced-nonzero (both a b) nonzero)
+        ∙ ap (timesIn p) (roots-reduced (both a b) nonzero)
+        ∙ sym (occurring-times p (roots a) (omega (arith, length-reduced (both a b) .0)))
 
 -- ---- examples
 

@@ -1,34 +1,31 @@
--- The row shifted down, from the numbers that the code makes: those of the mirror, of the mirror shifted up, and of that mirrored back.
+-- The row shifted down, as the code makes it: the mirror, the mirror shifted up, and that mirrored back.
 --
 -- Main definitions
---   mirrorNumbers l      the numbers of the mirrored row
---   raised l             the mirror shifted up, with its limits
+--   raised w             the mirror shifted up, with its limits
 --
 -- Main statements
---   mirror-long, mirror-small   the numbers of the mirror are those of a row within ±C
 --   lowered-refused      one is refused where the other is
---   raised-long, raised-small, lowered-worked   and otherwise the mirror of the one is the other
-use Prim.Native.Nat.{_+_, _≤_}
+--   raised-full, raised-small, lowered-passed, lowered-worked   and otherwise the mirror of the one is the other
+use Prim.Native.Nat.{_≤_}
 use native.Mathlib.Nat.{le-of-eq, le-refl}
 use native.Mathlib.Omega.{arith}
 use mathlib.Core.Path.{_≡_, refl, sym, _∙_, ap, subst}
 use mathlib.Core.Logic.{_≢_}
-use mathlib.Core.List.{List}
 use lib.Dec.{T}
-use lib.IntN.{ℤ}
-use lib.ListN.{length, take, drop}
+use lib.ListN.{length}
 use Rattle.lists.specs.Tests.{every}
-use Rattle.rules.specs.Limits.{mostSpan, blockCount, columnCount, coefficientCount, entriesLength, rowLength, small}
-use Rattle.rules.specs.Rows.{Row, coefficientsOf, smallRow, shiftUp, mirrorRow}
+use Rattle.rules.specs.Limits.{mostSpan, blockCount, columnCount, coefficientCount, rowLength, small}
+use Rattle.rules.specs.Rows.{Row, coefficientsOf, shiftUp, mirrorRow}
 use Rattle.rules.specs.Stores.{rowOf, StoreRow, Shaped}
-use Rattle.rules.specs.Layout.{StoreRow-rowOf}
+use Rattle.rules.specs.Layout.{StoreRow-rowOf, length-entries}
 use Rattle.rules.specs.Elimination.{Limited, within, beyond, limitCoefficients}
 use Rattle.stores.specs.Flat.{length-blocks}
 use Rattle.theory.specs.ShiftUp.{shiftUp-shaped}
 use Rattle.theory.specs.ShiftDown.{shiftDown}
-use Rattle.working_rows.specs.Working.{loaded-row, workingOf}
-use Rattle.working_rows.specs.Worked.{Held, refusalOf, numbersOf, workedRow, limit-zero}
-use Rattle.working_rows.specs.Mirroring.{length-mirrorRow, rowOf-mirrorRow, small-mirrorRow}
+use Rattle.working_rows.specs.declared.WorkingRow.{WorkingRow}
+use Rattle.working_rows.specs.Working.{leftPart, numbersHeld, Full, full-of, length-held}
+use Rattle.working_rows.specs.Worked.{Held, refusalOf, numbersOf, workedRow, numbers-worked, limit-zero}
+use Rattle.working_rows.specs.Mirroring.{mirroredOf, full-mirrored, held-mirrored}
 use Rattle.working_rows.specs.Shifting.{shifted-held}
 use Rattle.log_steps.specs.ShiftedDown.{mirrorLimited, lowered-limit}
 
@@ -37,39 +34,36 @@ unfolding mirrorLimited refusalOf
 refused-mirrored (within r) n = absurd (n refl)
 refused-mirrored (beyond k) n = refl
 
-module _ (l : List ℤ) (long : length l ≡ rowLength) (bounded : T (every small l)) where
-  abbrev pub mirrorNumbers : List ℤ
-  mirrorNumbers = coefficientsOf (mirrorRow mostSpan (rowOf l))
+module _ (w : WorkingRow) (full : Full w) where
+  abbrev mirror : WorkingRow
+  mirror = mirroredOf mostSpan w
 
-  pub mirror-long : length mirrorNumbers ≡ rowLength
-  mirror-long = length-mirrorRow mostSpan l (le-refl mostSpan) long
-
-  pub mirror-small : T (every small mirrorNumbers)
-  unfolding smallRow
-  mirror-small = small-mirrorRow mostSpan l (le-refl mostSpan) long bounded
+  mirror-long : length (numbersHeld mirror) ≡ rowLength
+  mirror-long = length-held mirror (full-mirrored mostSpan w (le-refl mostSpan) full)
 
   abbrev up : Row
-  up = shiftUp (rowOf mirrorNumbers)
+  up = shiftUp (rowOf (numbersHeld mirror))
 
   abbrev pub raised : Limited
   raised = limitCoefficients up
 
   abbrev pub loweredLimit : Limited
-  loweredLimit = limitCoefficients (shiftDown (rowOf l))
+  loweredLimit = limitCoefficients (shiftDown (rowOf (numbersHeld w)))
 
-  up-is : up ≡ shiftUp (mirrorRow mostSpan (rowOf l))
-  up-is = ap shiftUp (rowOf-mirrorRow mostSpan l (le-refl mostSpan) long)
+  up-is : up ≡ shiftUp (mirrorRow mostSpan (rowOf (numbersHeld w)))
+  up-is = ap shiftUp (held-mirrored mostSpan w (le-refl mostSpan) full)
 
   up-blocks : StoreRow up
   up-blocks =
-      shiftUp-shaped blockCount columnCount coefficientCount (rowOf mirrorNumbers) (omega arith)
-      (StoreRow-rowOf mirrorNumbers (le-of-eq (sym mirror-long)))
+      shiftUp-shaped blockCount columnCount coefficientCount (rowOf (numbersHeld mirror)) (omega arith)
+      (StoreRow-rowOf (numbersHeld mirror) (le-of-eq (sym mirror-long)))
 
   lowered-is : mirrorLimited raised ≡ loweredLimit
   unfolding Shaped
   lowered-is =
       ap (λ q. mirrorLimited (limitCoefficients q)) up-is
-      ∙ lowered-limit (rowOf l) (length-blocks l) (subst (λ q. 5 ≤ length (q .blocks)) up-is (le-of-eq (sym (up-blocks .0))))
+      ∙ lowered-limit (rowOf (numbersHeld w)) (length-blocks (numbersHeld w))
+      (subst (λ q. 5 ≤ length (q .blocks)) up-is (le-of-eq (sym (up-blocks .0))))
 
   pub lowered-refused : refusalOf raised ≢ 0 → raised ≡ loweredLimit
   lowered-refused n = sym (refused-mirrored raised n) ∙ lowered-is
@@ -79,22 +73,22 @@ module _ (l : List ℤ) (long : length l ≡ rowLength) (bounded : T (every smal
     raised-is = limit-zero up passed
 
     up-held : Held up
-    up-held = shifted-held mirrorNumbers mirror-long up raised-is
+    up-held = shifted-held (numbersHeld mirror) mirror-long up raised-is
 
-    numbers-are : numbersOf raised ≡ coefficientsOf up
+    numbers-are : numbersHeld (workedRow raised) ≡ coefficientsOf up
     unfolding numbersOf
-    numbers-are = ap numbersOf raised-is
+    numbers-are = numbers-worked raised ∙ ap numbersOf raised-is
 
-    pub raised-long : length (numbersOf raised) ≡ rowLength
-    raised-long = ap length numbers-are ∙ up-held .long
+    pub raised-full : Full (workedRow raised)
+    unfolding workedRow Shaped
+    raised-full =
+        subst Full (sym (ap workedRow raised-is))
+        (full-of (leftPart up) (up .right) (length-entries up up-blocks) (up-blocks .2))
 
-    pub raised-small : T (every small (numbersOf raised))
+    pub raised-small : T (every small (numbersHeld (workedRow raised)))
     raised-small = subst (λ k. T (every small k)) (sym numbers-are) (up-held .within-bound)
 
-    abbrev down : Row
-    down = mirrorRow mostSpan (rowOf (numbersOf raised))
-
-    lowered-within : loweredLimit ≡ within down
+    lowered-within : loweredLimit ≡ within (mirrorRow mostSpan (rowOf (numbersHeld (workedRow raised))))
     unfolding mirrorLimited
     lowered-within =
         sym lowered-is ∙ ap mirrorLimited raised-is
@@ -104,8 +98,6 @@ module _ (l : List ℤ) (long : length l ≡ rowLength) (bounded : T (every smal
     unfolding refusalOf
     lowered-passed = sym (ap refusalOf lowered-within)
 
-    pub lowered-worked : let k = coefficientsOf down in
-        workingOf (take entriesLength (drop 0 k)) (take coefficientCount (drop (0 + entriesLength) k)) ≡ workedRow loweredLimit
+    pub lowered-worked : mirroredOf mostSpan (workedRow raised) ≡ workedRow loweredLimit
     unfolding workedRow
-    lowered-worked =
-        loaded-row down (rowOf-mirrorRow mostSpan (numbersOf raised) (le-refl mostSpan) raised-long) ∙ sym (ap workedRow lowered-within)
+    lowered-worked = sym (ap workedRow lowered-within)

@@ -1,6 +1,7 @@
 // The steps of a log that need no multipliers, over the lent row store: the exchange of two rows, the shifts, the drop of a row.
 use reduction::step::Outcome;
 use reduction::step::Progress;
+use reduction::step::SPAN;
 use stores::lengths::BLOCK;
 use stores::lengths::ROW;
 ghost use mathlib.Core.Path.{_≡_};
@@ -12,6 +13,7 @@ ghost use lib.IntN.{ℤ};
 ghost use lib.ListN.{length, getD};
 ghost use Rattle.rules.specs.Limits.{rowLength, mostSpan};
 ghost use Rattle.rules.specs.Rows.{zeroBlock, zeroRow};
+ghost use Rattle.rules.specs.Rows as Rows;
 ghost use Rattle.rules.specs.Stores.{rowOf};
 ghost use Rattle.reduction.specs.Progress.{Ready, stateOf};
 ghost use Rattle.reduction.specs.StoreExchange.{numbersAt};
@@ -50,6 +52,14 @@ fn row_zero(rows: &[i64], i: usize) -> bool
     polynomials::content::is_zero(stores::rows::row_at(rows, i * ROW))
 }
 
+// The width of row i (SCOPE 2.1).
+fn width_of(rows: &[i64], i: usize) -> usize
+    requires { ⌜ i * rowLength + rowLength ≤ length (now rows) ⌝ }
+    ensures { λ r. ⌜ r ≡ Rows.width (rowOf (numbersAt (now (rows .entry)) i)) ⌝ }
+{
+    reduction::looking::width_at(rows, i, SPAN)
+}
+
 // Rows i and j change places (SCOPE 13.21).
 pub fn exchange_rows(rows: &mut [i64], i: usize, j: usize, p: Progress) -> Outcome
     requires { ⌜ Begun (now rows) p ⌝ }
@@ -60,7 +70,9 @@ pub fn exchange_rows(rows: &mut [i64], i: usize, j: usize, p: Progress) -> Outco
     if !two_rows(i, j, p.rows) {
         return reduction::step::answer(13, p);
     }
-    reduction::exchanging::exchange(rows, i, j);
+    let width = width_of(rows, i);
+    let other = width_of(rows, j);
+    reduction::exchanging::exchange(rows, i, j, width, other);
     reduction::step::answer(0, p)
 }
 
@@ -77,7 +89,8 @@ pub fn raise_row(rows: &mut [i64], i: usize, p: Progress) -> Outcome
     if !block_zero(rows, i, 0) {
         return reduction::step::answer(13, p);
     }
-    let row = working_rows::stored::load(rows, i * ROW);
+    let width = width_of(rows, i);
+    let row = working_rows::stored::load(rows, i * ROW, width);
     let order = p.order;
     let next = Progress {
         rows: p.rows,
@@ -102,7 +115,8 @@ pub fn lower_row(rows: &mut [i64], i: usize, span: usize, p: Progress) -> Outcom
     if !block_zero(rows, i, span) {
         return reduction::step::answer(13, p);
     }
-    let row = stores::rows::load(rows, i * ROW);
+    let width = width_of(rows, i);
+    let row = working_rows::stored::load(rows, i * ROW, width);
     reduction::step::put_limited(rows, i, crate::lowering::lowered(row), p)
 }
 

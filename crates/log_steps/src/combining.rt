@@ -164,7 +164,7 @@ fn combine_allowed(
         → Stepped (now (rows .entry)) (now (relations .entry)) (now (rows .exit)) (now (relations .exit)) p r
         (combineRows (stateOf (now (rows .entry)) (now (relations .entry)) p) i j d (now (g .entry)) h)) ⌝ }
 {
-    let found = roots::roots(g);
+    let found = multiplicities::roots_with(g);
     let count = p.count + found.count;
     if 16 < count {
         return reduction::step::answer(9, p);

@@ -73,7 +73,7 @@ fn steps(
         let lines = lines::step_lines(rows, p);
         put_lines(log, k, lines);
         k += lines.count;
-        let o = reduction::step::step(rows, relations, Side::Leading, COLUMNS, SPAN, p);
+        let o = reduction::step::step(rows, relations, Side::Leading, SPAN, p);
         refusal = o.refusal;
         p = o.progress;
         left -= 1;

@@ -9,16 +9,13 @@
 --   full-worked             the working row of a new row is full
 --   row-room                row i of equations rows has room in a store for equations rows
 --   saved-none              a refusal stores nothing
---   placed-lent             a new row that was put in its place where it was lent
 --   saved-outcome, saved-within, saved-kept   what storing the new row does
---   placed-outcome, placed-within, placed-kept   the same of a row that is made in its place, where a refusal leaves zeros
 use Prim.Native.Nat.{ℕ, zero, suc, _+_, _*_, _-_, _≤_, _<_}
 use native.Mathlib.Nat.{suc-mul, le-of-eq, not-suc-le-zero, mul-le-mul-right}
 use native.Mathlib.Omega.{arith}
 use mathlib.Core.Path.{_≡_, refl, sym, _∙_, ap}
 use mathlib.Core.Bool.{Bool, true, false, cond}
 use mathlib.Core.List.{List}
-use borrow.Rule.Slice.PartMut.{putMid}
 use lib.Dec.{lit<}
 use lib.IntN.{ℤ, pos}
 use lib.ListN.{length, take, set, replicate, length-replicate}
@@ -30,11 +27,9 @@ use Rattle.rules.specs.Rows.{Row, coefficientsOf, contradicts, combine, primiti
 use Rattle.rules.specs.Elimination.{Limited, within, beyond, limitCoefficients, limitDegrees, consistent, going, putRow, putLimited}
 use Rattle.rules.specs.Stores.{rowOf, rowsOf, relationsOf, rowNeed, Shaped}
 use Rattle.rules.specs.Layout.{entries-rowOf, StoreRow-rowOf}
-use Rattle.stores.specs.LentParts.{lent-back}
 use Rattle.working_rows.specs.Working.{leftPart, Full}
 use Rattle.working_rows.specs.Worked.{Held, refusalOf, numbersOf, workedRow}
 use Rattle.combinations.specs.Combination.{combined-held}
-use Rattle.combinations.specs.InPlace.{placed}
 use Rattle.working_rows.specs.Shifting.{shifted-held}
 use Rattle.reduction.specs.declared.step.Progress.{Progress}
 use Rattle.sides.specs.Lent.{Within, Kept}
@@ -115,16 +110,6 @@ unfolding saved
 saved-none store i zero numbers h = absurd (h refl)
 saved-none store i (suc n) numbers h = refl
 
--- The place of row i, lent and back with the new row in it or, with a refusal, with zeros.
-pub placed-lent : (store : List ℤ) (i : ℕ) (x : Limited) → Storable x
-    → putMid (i * rowLength) (i * rowLength + rowLength - i * rowLength) store (numbersOf x)
-    ≡ placed store (i * rowLength) (refusalOf x) (numbersOf x)
-unfolding Storable placed refusalOf numbersOf
-placed-lent store i (within r) h = lent-back store (i * rowLength) rowLength (coefficientsOf r) (h .long)
-placed-lent store i (beyond zero) h = absurd (not-suc-le-zero h)
-placed-lent store i (beyond (suc n)) h =
-    lent-back store (i * rowLength) rowLength (replicate rowLength (pos 0)) (length-replicate rowLength (pos 0))
-
 -- Row i of equations rows in a store within ±C, in whose place a new row is put.
 module _ (equations i : ℕ) (store : List ℤ) (w : Within (rowNeed equations) store) (inside : i < equations) where
   pub row-room : i * rowLength + rowLength ≤ rowNeed equations
@@ -149,30 +134,6 @@ module _ (equations i : ℕ) (store : List ℤ) (w : Within (rowNeed equations) 
   saved-kept (beyond zero) h = absurd (not-suc-le-zero h)
   saved-kept (beyond (suc n)) h = kept-same (rowNeed equations) store
 
-  -- The new row made in its place.
-  abbrev made : Limited → List ℤ
-  made x = placed store (i * rowLength) (refusalOf x) (numbersOf x)
-
-  zeros-long : rowLength ≤ length (replicate rowLength (pos 0))
-  zeros-long = le-of-eq (sym (length-replicate rowLength (pos 0)))
-
-  pub placed-within : (x : Limited) → Storable x → Within (rowNeed equations) (made x)
-  unfolding Storable placed refusalOf numbersOf every small
-  placed-within (within r) h =
-      within-paste (rowNeed equations) store w (i * rowLength) (coefficientsOf r) rowLength (le-of-eq (sym (h .long))) row-room
-      (h .within-bound)
-  placed-within (beyond zero) h = absurd (not-suc-le-zero h)
-  placed-within (beyond (suc n)) h =
-      within-paste (rowNeed equations) store w (i * rowLength) (replicate rowLength (pos 0)) rowLength zeros-long row-room tt
-
-  pub placed-kept : (x : Limited) → Storable x → Kept (rowNeed equations) store (made x)
-  unfolding Storable placed refusalOf numbersOf
-  placed-kept (within r) h =
-      kept-paste (rowNeed equations) store w (i * rowLength) (coefficientsOf r) rowLength (le-of-eq (sym (h .long))) row-room
-  placed-kept (beyond zero) h = absurd (not-suc-le-zero h)
-  placed-kept (beyond (suc n)) h =
-      kept-paste (rowNeed equations) store w (i * rowLength) (replicate rowLength (pos 0)) rowLength zeros-long row-room
-
 pub saved-outcome : (p : Progress) (i : ℕ) (store relations : List ℤ) → Within (rowNeed (p .rows)) store → i < p .rows
     → (x : Limited) → Storable x
     → outcomeOf (refusalOf x) false (stateOf (saved store i (refusalOf x) (numbersOf x)) relations p)
@@ -183,12 +144,3 @@ saved-outcome p i store relations w inside (within r) h =
     (rowsOf-paste (p .rows) store (coefficientsOf r) i (h .long) (w .long) inside ∙ ap (set (rowsOf (p .rows) store) i) (h .numbers))
 saved-outcome p i store relations w inside (beyond zero) h = absurd (not-suc-le-zero h)
 saved-outcome p i store relations w inside (beyond (suc n)) h = refl
-
-pub placed-outcome : (p : Progress) (i : ℕ) (store relations : List ℤ) → Within (rowNeed (p .rows)) store → i < p .rows
-    → (x : Limited) → Storable x
-    → outcomeOf (refusalOf x) false (stateOf (placed store (i * rowLength) (refusalOf x) (numbersOf x)) relations p)
-    ≡ putLimited (stateOf store relations p) i x
-unfolding Storable saved placed refusalOf numbersOf outcomeOf putLimited
-placed-outcome p i store relations w inside (within r) h = saved-outcome p i store relations w inside (within r) h
-placed-outcome p i store relations w inside (beyond zero) h = absurd (not-suc-le-zero h)
-placed-outcome p i store relations w inside (beyond (suc n)) h = refl

@@ -36,14 +36,13 @@ use Rattle.rules.specs.Layout.{length-relationsOf}
 use Rattle.working_rows.specs.Worked.{refusalOf, numbersOf}
 use Rattle.reduction.specs.declared.step.Progress.{Progress}
 use Rattle.reduction.specs.declared.step.Outcome as Answer
-use Rattle.combinations.specs.InPlace.{placed}
 use Rattle.sides.specs.Lent.{Within, Kept}
 use Rattle.reduction.specs.Progress.{Ready, Reached, state, stateOf, outcomeOf, answerOf}
 use Rattle.reduction.specs.Progress.{droppedProgress, listedProgress, shiftedProgress, ready-with}
 use Rattle.sides.specs.StoreStates.{kept-same, kept-then}
 use Rattle.sides.specs.Relations.{Relisted, length-listing}
 use Rattle.reduction.specs.Dropping.{dropped, dropped-state, dropped-within, dropped-kept, dropped-freed, freed-none}
-use Rattle.reduction.specs.NewRows.{Storable, shifted-storable, placed-within, placed-kept, placed-outcome}
+use Rattle.reduction.specs.NewRows.{Storable, saved, shifted-storable, saved-within, saved-kept, saved-outcome}
 use Rattle.reduction.specs.StoreExchange.{numbersAt, length-numbersAt, row-of}
 
 -- ---- what a step gives
@@ -209,14 +208,14 @@ module _ (side : Side) {rows relations : List ℤ} {p : Progress} (ready : Ready
           (ap₂ (λ a b. consistent (limitDegrees (primitive (combine (x .g) (x .h) a b)))) i-row j-row))
 
       pub combine-reached : p .count + more ≤ 16 → Storable new
-          → Reached (p .rows) rows relations (placed rows (i * rowLength) (refusalOf new) (numbersOf new)) relations' (p .shifts + 1)
+          → Reached (p .rows) rows relations (saved rows i (refusalOf new) (numbersOf new)) relations' (p .shifts + 1)
           (answerOf (refusalOf new) (listedProgress p more)) (combineStep side before i j x)
       combine-reached few h =
           let next = ready-with ready (ready .rows-within) (rw (length-listing side (roots (x .g))) at (l .listing)) in
           let w = ready .rows-within in
           reached-same refl refl (combine-listed few)
-          (put-reached p (listedProgress p more) new (placed-outcome (listedProgress p more) i rows relations' w inside new h)
-          (placed-within (p .rows) i rows w inside new h) (placed-kept (p .rows) i rows w inside new h) (l .kept) next (omega arith))
+          (put-reached p (listedProgress p more) new (saved-outcome (listedProgress p more) i rows relations' w inside new h)
+          (saved-within (p .rows) i rows w inside new h) (saved-kept (p .rows) i rows w inside new h) (l .kept) next (omega arith))
 
 -- ---- rule 6
 
@@ -225,13 +224,13 @@ shiftedRow l = limitCoefficients (shiftUp (rowOf l))
 
 pub shift-reached : {rows relations : List ℤ} {p : Progress} → Ready rows relations p → p .settled < p .rows
     → let new = shiftedRow (numbersAt rows (p .settled)) in
-    Reached (p .rows) rows relations (placed rows (p .settled * rowLength) (refusalOf new) (numbersOf new)) relations (p .shifts + 1)
+    Reached (p .rows) rows relations (saved rows (p .settled) (refusalOf new) (numbersOf new)) relations (p .shifts + 1)
     (answerOf (refusalOf new) (shiftedProgress p)) (shiftStep (stateOf rows relations p) (p .settled))
 unfolding shiftStep countShift stateOf
 shift-reached {rows} {relations} {p} r inside =
     reached-same refl refl same
-    (put-reached p (shiftedProgress p) new (placed-outcome (shiftedProgress p) i rows relations w inside new storable)
-    (placed-within (p .rows) i rows w inside new storable) (placed-kept (p .rows) i rows w inside new storable)
+    (put-reached p (shiftedProgress p) new (saved-outcome (shiftedProgress p) i rows relations w inside new storable)
+    (saved-within (p .rows) i rows w inside new storable) (saved-kept (p .rows) i rows w inside new storable)
     (kept-same relationNeed relations) (ready-with r w (r .listing)) (omega arith))
   where
     i : ℕ

@@ -162,13 +162,13 @@ module _ (equations : ℕ) (rows : List ℤ) (w : Within (rowNeed equations) row
       ∙ ap (λ l. set l i (numbersAt rows j))
       (parts-paste rowLength equations rows (numbersAt rows i) j (length-numbersAt equations rows w i inside) (w .long) other)
 
-  exchanged-first : numbersAt exchanged i ≡ numbersAt rows j
+  pub exchanged-first : numbersAt exchanged i ≡ numbersAt rows j
   exchanged-first =
       sym (getD-parts rowLength equations exchanged i inside) ∙ ap (λ l. getD l i []) parts-exchanged
       ∙ getD-set-same (set (parts rowLength equations rows) j (numbersAt rows i)) i (numbersAt rows j) []
       (simp (length-set, parts-length) inside)
 
-  exchanged-second : j ≢ i → numbersAt exchanged j ≡ numbersAt rows i
+  pub exchanged-second : j ≢ i → numbersAt exchanged j ≡ numbersAt rows i
   exchanged-second n =
       sym (getD-parts rowLength equations exchanged j other) ∙ ap (λ l. getD l j []) parts-exchanged
       ∙ getD-set-other (set (parts rowLength equations rows) j (numbersAt rows i)) i j (numbersAt rows j) [] n

@@ -9,7 +9,7 @@ ghost use mathlib.Core.Path.{_≡_};
 ghost use Prim.Native.Nat.{_+_, _*_, _≤_};
 ghost use lib.Dec.{T};
 ghost use Rattle.lists.specs.Tests.{every};
-ghost use Rattle.rules.specs.Limits.{mostEquations, mostSpan};
+ghost use Rattle.rules.specs.Limits.{columnCount, mostEquations, mostSpan};
 ghost use Rattle.rules.specs.Stores.{rowNeed, rowsOf, unusedZero};
 ghost use Rattle.sides.specs.Lent.{Within, Listing, sideOf};
 ghost use Rattle.reduction.specs.Progress.{mostSteps, Reached, startProgress};
@@ -44,11 +44,10 @@ fn steps(
     equations: usize,
     side: Side,
     count: usize,
-    m: usize,
     span: usize,
 ) -> Outcome
     requires { ⌜ (equations ≤ mostEquations) × Within (rowNeed equations) (now rows) × Listing count (now relations) ⌝ }
-    requires { ⌜ (span ≤ mostSpan) × T (every (unusedZero m span) (rowsOf equations (now rows))) ⌝ }
+    requires { ⌜ (span ≤ mostSpan) × T (every (unusedZero columnCount span) (rowsOf equations (now rows))) ⌝ }
     ensures { λ r. ⌜ Reached equations (now (rows .entry)) (now (relations .entry)) (now (rows .exit)) (now (relations .exit)) mostSteps r
         (runOf (sideOf side) equations count (now (rows .entry)) (now (relations .entry))) ⌝ }
 {
@@ -56,7 +55,7 @@ fn steps(
     let mut refusal: u8 = 0;
     let mut left = enough(equations);
     while 0 < left && refusal == 0 && p.settled < p.rows {
-        let o = crate::step::step(rows, relations, side, m, span, p);
+        let o = crate::step::step(rows, relations, side, span, p);
         refusal = o.refusal;
         p = o.progress;
         left -= 1;
@@ -75,11 +74,10 @@ pub fn run(
     equations: usize,
     side: Side,
     count: usize,
-    m: usize,
     span: usize,
 ) -> Outcome
     requires { ⌜ (equations ≤ mostEquations) × Within (rowNeed equations) (now rows) × Listing count (now relations) ⌝ }
-    requires { ⌜ (span ≤ mostSpan) × T (every (unusedZero m span) (rowsOf equations (now rows))) ⌝ }
+    requires { ⌜ (span ≤ mostSpan) × T (every (unusedZero columnCount span) (rowsOf equations (now rows))) ⌝ }
     ensures { λ r. ⌜ r ≡ answerFor equations (runOf (sideOf side) equations count (now (rows .entry)) (now (relations .entry))) ⌝ }
     ensures { λ _. ⌜ now (rows .exit)
         ≡ rowsAfter equations (runOf (sideOf side) equations count (now (rows .entry)) (now (relations .entry))) (now (rows .entry)) ⌝ }
@@ -88,7 +86,7 @@ pub fn run(
     ensures { λ r. ⌜ Reached equations (now (rows .entry)) (now (relations .entry)) (now (rows .exit)) (now (relations .exit)) mostSteps r
         (runOf (sideOf side) equations count (now (rows .entry)) (now (relations .entry))) ⌝ }
 {
-    let o = steps(rows, relations, equations, side, count, m, span);
+    let o = steps(rows, relations, equations, side, count, span);
     let refusal = o.refusal;
     if refusal == 0 {
         return o;

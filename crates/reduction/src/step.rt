@@ -1,6 +1,6 @@
 // One step of the elimination over the lent stores: what `step` of `rules` says of the state that the stores hold.
+use multiplicities::RootsWith;
 use polynomials::lengths::COEFFICIENTS;
-use roots::RootList;
 use sides::Side;
 use stores::lengths::BLOCKS;
 use stores::lengths::COLUMNS;
@@ -12,17 +12,15 @@ ghost use Prim.Native.Nat.{_+_, _*_, _-_, _^_, _≤_, _<_};
 ghost use lib.Dec.{T};
 ghost use lib.ListN.{length};
 ghost use Rattle.algebra.specs.Polynomials.{isZero};
-ghost use Rattle.algebra.specs.Roots.{roots};
 ghost use Rattle.rules.specs.Limits.{coefficientCount, columnCount, mostEquations, mostSpan, entriesLength, rowLength, small};
 ghost use Rattle.rules.specs.Rows.{entry};
 ghost use Rattle.rules.specs.Rows as Rows;
 ghost use Rattle.lists.specs.Tests.{every};
 ghost use Rattle.rules.specs.Elimination as Elimination;
 ghost use Rattle.rules.specs.Stores.{rowOf};
-ghost use Rattle.roots.specs.RootSearch.{listed};
+ghost use Rattle.multiplicities.specs.Counts.{listedWith};
 ghost use Rattle.working_rows.specs.Working.{numbersHeld, Full};
 ghost use Rattle.working_rows.specs.Worked.{refusalOf, numbersOf};
-ghost use Rattle.combinations.specs.InPlace.{placed};
 ghost use Rattle.sides.specs.Lent.{sideOf};
 ghost use Rattle.reduction.specs.Progress.{Ready, Reached, stateOf, answerOf, droppedProgress, settledProgress, shiftedProgress};
 ghost use Rattle.reduction.specs.NewRows.{saved};
@@ -82,21 +80,22 @@ pub fn put_limited(
     answer(0, next)
 }
 
-// The multipliers of rule 2, from the entries of both rows in column c, put into g and h: the roots of g (SCOPE 2.23 to 2.28).
+// The multipliers of rule 2, from the entries of both rows in column c, put into g and h: the roots of g, each with how often it occurs
+// (SCOPE 2.23 to 2.28, 2.84).
 pub fn put_multipliers_at(
     g: &mut [i64],
     h: &mut [i64],
     target: &[i64],
     pivot: &[i64],
     c: usize,
-) -> RootList
+) -> RootsWith
     requires { ⌜ (length (now g) ≡ coefficientCount) × (length (now h) ≡ coefficientCount) ⌝ }
     requires { ⌜ (c < columnCount) × (entriesLength ≤ length (now target)) × (entriesLength ≤ length (now pivot)) ⌝ }
     requires { ⌜ T (every small (now target)) × T (every small (now pivot)) ⌝ }
     requires { ⌜ T (not (isZero (entry (rowOf (now pivot)) c ++ entry (rowOf (now target)) c))) ⌝ }
     ensures { λ _. ⌜ now (g .exit) ≡ multipliersOf c (now (target .entry)) (now (pivot .entry)) .g ⌝ }
     ensures { λ _. ⌜ now (h .exit) ≡ multipliersOf c (now (target .entry)) (now (pivot .entry)) .h ⌝ }
-    ensures { λ r. ⌜ r ≡ listed (roots (multipliersOf c (now (target .entry)) (now (pivot .entry)) .g)) ⌝ }
+    ensures { λ r. ⌜ r ≡ listedWith (Elimination.rootsWith (multipliersOf c (now (target .entry)) (now (pivot .entry)) .g)) ⌝ }
 {
     let from = c * COEFFICIENTS;
     let to = from + COEFFICIENTS;
@@ -126,7 +125,7 @@ fn shift_step(rows: &mut [i64], width: usize, p: Progress) -> Outcome
         (p .settled * rowLength + rowLength ≤ length (now rows)) × T (every small (numbersAt (now rows) (p .settled)))
         × (width ≡ Rows.width (rowOf (numbersAt (now rows) (p .settled)))) × (p .shifts < 2 ^ 32) ⌝ }
     ensures { λ _. ⌜ now (rows .exit)
-        ≡ placed (now (rows .entry)) (p .settled * rowLength) (refusalOf (shiftedRow (numbersAt (now (rows .entry)) (p .settled))))
+        ≡ saved (now (rows .entry)) (p .settled) (refusalOf (shiftedRow (numbersAt (now (rows .entry)) (p .settled))))
         (numbersOf (shiftedRow (numbersAt (now (rows .entry)) (p .settled)))) ⌝ }
     ensures { λ r. ⌜ r ≡ answerOf (refusalOf (shiftedRow (numbersAt (now (rows .entry)) (p .settled)))) (shiftedProgress p) ⌝ }
 {
@@ -139,12 +138,8 @@ fn shift_step(rows: &mut [i64], width: usize, p: Progress) -> Outcome
         count: p.count,
         shifts: p.shifts + 1,
     };
-    let from = i * ROW;
-    let to = from + ROW;
-    answer(
-        working_rows::shifting::shift_into(&mut rows[from..to], width),
-        next,
-    )
+    let row = working_rows::stored::load(rows, i * ROW, width);
+    put_limited(rows, i, working_rows::shifting::shifted(row), next)
 }
 
 // Rule 1: the row that is worked on is dropped; the later ones move up, and the place of the last one holds 0 (SCOPE 2.11).
@@ -168,19 +163,21 @@ fn drop_step(rows: &mut [i64], p: Progress) -> Outcome
     answer(0, next)
 }
 
-// Rules 3 and 4 for the row that is worked on and settled row j (SCOPE 2.31, 2.34, 2.41, 2.42, 2.47).
+// Rules 3 and 4 for the row that is worked on and settled row j, whose widths are known (SCOPE 2.31, 2.34, 2.41, 2.42, 2.47).
 fn combine_step(
     rows: &mut [i64],
     relations: &mut [i64],
     side: Side,
     j: usize,
-    m: usize,
-    span: usize,
+    width: usize,
+    other: usize,
     p: Progress,
 ) -> Outcome
     requires { ⌜ Ready (now rows) (now relations) p × (p .settled < p .rows) × (j < p .settled) ⌝ }
+    requires { ⌜ T (not (isZero (metEntries (now rows) p j))) ⌝ }
     requires { ⌜
-        T (not (isZero (metEntries (now rows) p j))) × (span ≤ mostSpan) × Unused m span (stateOf (now rows) (now relations) p) ⌝ }
+        (width ≡ Rows.width (rowOf (numbersAt (now rows) (p .settled))))
+        × (other ≡ Rows.width (rowOf (numbersAt (now rows) j))) ⌝ }
     ensures { λ r. ⌜ Reached (p .rows) (now (rows .entry)) (now (relations .entry)) (now (rows .exit)) (now (relations .exit)) (p .shifts + 1) r
         (Elimination.combineStep (sideOf side) (stateOf (now (rows .entry)) (now (relations .entry)) p) (p .settled) j
         (Elimination.multipliersAt (stateOf (now (rows .entry)) (now (relations .entry)) p) (p .settled) j)) ⌝ }
@@ -199,7 +196,8 @@ fn combine_step(
         return answer(9, p);
     }
     sides::listing::list_roots(relations, p.count, found, side, target);
-    let refusal = combinations::combine_rows(rows, i * ROW, j * ROW, &g[..], &h[..], m, span);
+    let row = working_rows::stored::load(rows, i * ROW, width);
+    let worked = combinations::combined(&g[..], &h[..], row, pivot, other);
     let next = Progress {
         rows: p.rows,
         settled: i,
@@ -207,7 +205,7 @@ fn combine_step(
         count,
         shifts: p.shifts,
     };
-    answer(refusal, next)
+    put_limited(rows, i, worked, next)
 }
 
 // Rule 2 for the row that is worked on and settled row j: if the settled row is the wider, the two change places first (SCOPE 2.22).
@@ -217,7 +215,6 @@ fn eliminate_step(
     side: Side,
     j: usize,
     width: usize,
-    m: usize,
     span: usize,
     p: Progress,
 ) -> Outcome
@@ -226,7 +223,7 @@ fn eliminate_step(
         × (width ≡ Rows.width (rowOf (numbersAt (now rows) (p .settled)))) ⌝ }
     requires { ⌜
         T (not (isZero (metEntries (narrowed (now rows) (p .settled) j) p j))) × (span ≤ mostSpan)
-        × Unused m span (stateOf (now rows) (now relations) p) ⌝ }
+        × Unused columnCount span (stateOf (now rows) (now relations) p) ⌝ }
     ensures { λ r. ⌜ Reached (p .rows) (now (rows .entry)) (now (relations .entry)) (now (rows .exit)) (now (relations .exit)) (p .shifts + 1) r
         (Elimination.combineStep (sideOf side)
         (stateOf (narrowed (now (rows .entry)) (p .settled) j) (now (relations .entry)) p) (p .settled) j
@@ -234,24 +231,25 @@ fn eliminate_step(
         (stateOf (narrowed (now (rows .entry)) (p .settled) j) (now (relations .entry)) p) (p .settled) j)) ⌝ }
     ensures { λ r. ⌜ r .done ≡ false ⌝ }
 {
-    if width < crate::looking::width_at(rows, j, span) {
-        crate::exchanging::exchange(rows, p.settled, j);
+    let other = crate::looking::width_at(rows, j, span);
+    if width < other {
+        crate::exchanging::exchange(rows, p.settled, j, width, other);
+        return combine_step(rows, relations, side, j, other, width, p);
     }
-    combine_step(rows, relations, side, j, m, span, p)
+    combine_step(rows, relations, side, j, width, other, p)
 }
 
 // One dropped row, one exchange with its combination, one combination, one settling or one shift (SCOPE 2.2, 2.11, 2.12, 2.26). A step
-// is taken only where a row is not settled. Of a row only the first m columns of the first span + 1 blocks are in use.
+// is taken only where a row is not settled. Of a row only the first span + 1 blocks are in use.
 pub fn step(
     rows: &mut [i64],
     relations: &mut [i64],
     side: Side,
-    m: usize,
     span: usize,
     p: Progress,
 ) -> Outcome
     requires { ⌜ Ready (now rows) (now relations) p × (p .settled < p .rows) × (p .shifts < 2 ^ 32) ⌝ }
-    requires { ⌜ (span ≤ mostSpan) × Unused m span (stateOf (now rows) (now relations) p) ⌝ }
+    requires { ⌜ (span ≤ mostSpan) × Unused columnCount span (stateOf (now rows) (now relations) p) ⌝ }
     ensures { λ r. ⌜ Reached (p .rows) (now (rows .entry)) (now (relations .entry)) (now (rows .exit)) (now (relations .exit)) (p .shifts + 1) r
         (Elimination.step (sideOf side) (stateOf (now (rows .entry)) (now (relations .entry)) p)) ⌝ }
     ensures { λ r. ⌜ r .done ≡ false ⌝ }
@@ -267,7 +265,7 @@ pub fn step(
     let order = p.order;
     let j = crate::looking::met_at(rows, i, order, i);
     if j < i {
-        return eliminate_step(rows, relations, side, j, width, m, span, p);
+        return eliminate_step(rows, relations, side, j, width, span, p);
     }
     let c = crate::looking::column_at(rows, i);
     if c < COLUMNS {

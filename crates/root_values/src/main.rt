@@ -2,10 +2,10 @@
 // says how often each polynomial is searched (1 but where a search is measured), and for each polynomial a line with its 16
 // coefficients, from power 0 up. The last line says how many roots all searches together have found.
 use libc::STDIN_FILENO;
+use multiplicities::RootsWith;
 use printing::print;
 use printing::print_signed;
 use printing::print_size;
-use roots::RootList;
 ghost use mathlib.Core.Path.{_≡_};
 ghost use Prim.Native.Nat.{_^_, _≤_, _<_};
 ghost use lib.Dec.{T};
@@ -103,19 +103,19 @@ fn polynomial_at(bytes: &[u8], from: usize) -> Line
 
 // How many roots so many searches find together.
 fn found_by(p: &[i64], searches: u64) -> u64
-    requires { ⌜ (length (now p) ≤ 16) × T (every small (now p)) ⌝ }
+    requires { ⌜ (length (now p) ≡ 16) × T (every small (now p)) ⌝ }
 {
     let mut found: u64 = 0;
     let mut left = searches;
     while 0 < left {
-        let all = roots::roots(p);
+        let all = multiplicities::roots_with(p);
         found = std::num::wrapping_add_u64(found, all.count as u64);
         left -= 1;
     }
     found
 }
 
-fn print_list(all: RootList)
+fn print_list(all: RootsWith)
     requires { ⌜ all .count ≤ 16 ⌝ }
 {
     let n = all.count;
@@ -128,12 +128,12 @@ fn print_list(all: RootList)
 }
 
 fn print_roots(p: &[i64])
-    requires { ⌜ (length (now p) ≤ 16) × T (every small (now p)) ⌝ }
+    requires { ⌜ (length (now p) ≡ 16) × T (every small (now p)) ⌝ }
 {
     print(b"roots");
-    print_list(roots::roots(p));
-    let least = roots::smallest_root(p);
-    let most = roots::largest_root(p);
+    print_list(multiplicities::roots_with(p));
+    let least = multiplicities::smallest_with(p);
+    let most = multiplicities::largest_with(p);
     if least.found {
         print(b" from");
         print_signed(least.root);

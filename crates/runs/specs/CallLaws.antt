@@ -12,7 +12,7 @@
 --   few-equations, few-blocks     the equations and D of right sizes are few
 --   accepted-result               the result of a run that accepts
 --   ended-refused, ended-accepted the result after the run, from the answer and the stores
---   rows-unused                   the unused places of rows that pass the checks are zero
+--   rows-unused, columns-unused   the unused places of rows that pass the checks are zero; the same of blocks alone
 --   checked                       what the checks let through
 --   final-run                     a whole run ends, and one that accepts has settled every row that is left
 --   call-left, call-run, call-refused   the whole call
@@ -27,16 +27,17 @@ use mathlib.Core.List.{List, [], _∷_, _++_, map, flatten, map-append}
 use lib.Dec.{T}
 use lib.IntN.{ℤ, pos}
 use lib.Signed.{≤ℤ-refl}
-use lib.ListN.{length, take, getD, set, replicate, length-map}
+use lib.ListN.{length, take, drop, getD, set, replicate, length-map}
 use lib.Seq.{take-suc, length-take-le}
 use Rattle.algebra.specs.Polynomials.{isZero}
 use Rattle.lists.specs.Everywhere.{member-all}
+use Rattle.lists.specs.Parts.{parts}
 use Rattle.lists.specs.Tests.{T-&&, every, every-append}
-use Rattle.rules.specs.Limits.{columnCount, relationLength, small, mostEquations}
-use Rattle.rules.specs.Rows.{Row, Relation, coefficientsOf, smallRow}
+use Rattle.rules.specs.Limits.{columnCount, rowLength, relationLength, small, mostEquations}
+use Rattle.rules.specs.Rows.{Row, Relation, coefficientsOf, smallRow, zeroBlock}
 use Rattle.rules.specs.Elimination.{Side, State, Outcome, going, done, refused, rank, wholeRun, neverNumber, diagonal}
 use Rattle.rules.specs.Stores.{Sizes, equations, Valid, span, sizesRight, checkStores, rowsOf, relationsOf, rowNeed, relationNeed}
-use Rattle.rules.specs.Stores.{rowStoreOf, relationStoreOf, relationNumbers, unusedZero, rowRight, relationRight}
+use Rattle.rules.specs.Stores.{rowOf, rowStoreOf, relationStoreOf, relationNumbers, unusedZero, rowRight, relationRight}
 use Rattle.rules.specs.Layout.{rowStoreOf-rowsOf, relationStoreOf-relationsOf, length-relationsOf, size-bounds, length-rowsOf, block-place}
 use Rattle.rules.specs.Layout.{StoresRight, checkStores-zero, stores-valid, NumbersRight, numbersRight-iff}
 use Rattle.rules.specs.Layout.{lengthsRight-iff, countRight-iff}
@@ -180,6 +181,26 @@ rows-unused z (r ∷ rows) h =
     let both = T-&& (rowRight z r) (every (rowRight z) rows) .0 h in
     T-&& (unusedZero (z .m) (span z) r) (every (unusedZero (z .m) (span z)) rows) .1
     (T-&& (smallRow r) (unusedZero (z .m) (span z) r) .0 (both .0) .1, rows-unused z rows (both .1))
+
+-- Whatever m is, a row of a store has no columns past its four.
+row-columns : (m D : ℕ) (l : List ℤ) → T (unusedZero m D (rowOf l)) → T (unusedZero columnCount D (rowOf l))
+unfolding unusedZero rowOf parts every zeroBlock
+row-columns m D l h =
+    let blocks = rowOf l .blocks in
+    T-&& (every (λ b. zeroBlock (drop columnCount b)) blocks) (every zeroBlock (drop (suc D) blocks)) .1
+    (tt, T-&& (every (λ b. zeroBlock (drop m b)) blocks) (every zeroBlock (drop (suc D) blocks)) .0 h .1)
+
+pub columns-unused : (m D n : ℕ) (store : List ℤ) → T (every (unusedZero m D) (rowsOf n store))
+    → T (every (unusedZero columnCount D) (rowsOf n store))
+unfolding rowsOf every
+columns-unused m D n store h = go (parts rowLength n store) h
+  where
+    go : (ls : List (List ℤ)) → T (every (unusedZero m D) (map rowOf ls)) → T (every (unusedZero columnCount D) (map rowOf ls))
+    go [] k = tt
+    go (l ∷ ls) k =
+        let both = T-&& (unusedZero m D (rowOf l)) (every (unusedZero m D) (map rowOf ls)) .0 k in
+        T-&& (unusedZero columnCount D (rowOf l)) (every (unusedZero columnCount D) (map rowOf ls)) .1
+        (row-columns m D l (both .0), go ls (both .1))
 
 -- The numbers of things that pass a test, end to end.
 every-number : {A : Type 0} (t : A → Bool) (f : A → List ℤ) → ((x : A) → T (t x) → T (every small (f x)))

@@ -2,7 +2,6 @@
 // entry points.
 use reduction::step::SPAN;
 use sides::Side;
-use stores::lengths::COLUMNS;
 ghost use mathlib.Core.Path.{_≡_};
 ghost use mathlib.Core.Bool.{true};
 ghost use mathlib.Core.List.{List};
@@ -107,15 +106,7 @@ pub fn trailing_run(
         (Elimination.trailingRun span (rowsOf equations (now (rows .entry))) (relationsOf count (now (relations .entry)))) ⌝ }
 {
     sides::mirror::mirror_rows(rows, equations, span);
-    let o = reduction::run::run(
-        rows,
-        relations,
-        equations,
-        Side::Trailing,
-        count,
-        COLUMNS,
-        SPAN,
-    );
+    let o = reduction::run::run(rows, relations, equations, Side::Trailing, count, SPAN);
     let refusal = o.refusal;
     if refusal != 0 {
         return o;
@@ -133,10 +124,9 @@ fn whole_run(
     span: usize,
     side: Side,
     count: usize,
-    m: usize,
 ) -> reduction::step::Outcome
     requires { ⌜ (equations ≤ mostEquations) × (span ≤ 4) × Within (rowNeed equations) (now rows) × Listing count (now relations) ⌝ }
-    requires { ⌜ T (every (unusedZero m span) (rowsOf equations (now rows))) ⌝ }
+    requires { ⌜ T (every (unusedZero columnCount span) (rowsOf equations (now rows))) ⌝ }
     ensures { λ r. ⌜ Ran equations (now (rows .entry)) (now (relations .entry)) (now (rows .exit)) (now (relations .exit)) r
         (Elimination.wholeRun (sideOf side) span (rowsOf equations (now (rows .entry))) (relationsOf count (now (relations .entry)))) ⌝ }
 {
@@ -147,7 +137,6 @@ fn whole_run(
             equations,
             Side::Leading,
             count,
-            m,
             span,
         ),
         Side::Trailing => trailing_run(rows, relations, equations, span, count),
@@ -188,7 +177,7 @@ fn checked_run(
 {
     let equations = sizes.equations;
     let span = stores::validity::span(sizes);
-    whole_run(rows, relations, equations, span, side, count, sizes.m)
+    whole_run(rows, relations, equations, span, side, count)
 }
 
 // A run on lent stores: the checks, and the run (SCOPE 3.21, 3.31).

@@ -1,5 +1,6 @@
 // Rule 3: relations listed in the relation store.
 use crate::Side;
+use multiplicities::RootsWith;
 use stores::lengths::RELATION;
 ghost use mathlib.Core.Path.{_≡_};
 ghost use mathlib.Core.List.{_∷_};
@@ -11,7 +12,7 @@ ghost use lib.Seq.{paste};
 ghost use Rattle.rules.specs.Limits.{rowLength, relationLength, small};
 ghost use Rattle.lists.specs.Tests.{every};
 ghost use Rattle.rules.specs.Elimination.{listing};
-ghost use Rattle.roots.specs.RootSearch.{held};
+ghost use Rattle.multiplicities.specs.Counts.{rootsHeld};
 ghost use Rattle.sides.specs.Lent.{sideOf, Listing};
 ghost use Rattle.sides.specs.Relations.{Relisted};
 
@@ -26,9 +27,9 @@ fn save_relation(relations: &mut [i64], k: usize, n0: i64, row: &[i64])
 }
 
 // On the trailing side from the largest root down, so that n0 as given back ascends (SCOPE 2.33).
-fn root_at(found: roots::RootList, side: Side, k: usize) -> i64
+fn root_at(found: RootsWith, side: Side, k: usize) -> i64
     requires { ⌜ (k < found .count) × (found .count ≤ 16) × (length (found .values) ≡ 16) ⌝ }
-    ensures { λ r. ⌜ r ≡ getD (listing (sideOf side) (held found)) k (pos 0) ⌝ }
+    ensures { λ r. ⌜ r ≡ getD (listing (sideOf side) (rootsHeld found)) k (pos 0) ⌝ }
 {
     let values = found.values;
     let n = found.count;
@@ -38,17 +39,12 @@ fn root_at(found: roots::RootList, side: Side, k: usize) -> i64
     }
 }
 
-// A relation for each of the roots of g, the row at it, from place `count` on (SCOPE 2.3, 2.31).
-pub fn list_roots(
-    relations: &mut [i64],
-    count: usize,
-    found: roots::RootList,
-    side: Side,
-    row: &[i64],
-)
+// A relation for each of the roots of g, once however often it occurs: the row at it, from place `count` on
+// (SCOPE 2.3, 2.31).
+pub fn list_roots(relations: &mut [i64], count: usize, found: RootsWith, side: Side, row: &[i64])
     requires { ⌜ Listing count (now relations) × (count + found .count ≤ 16) × (length (found .values) ≡ 16) ⌝ }
-    requires { ⌜ T (every small (held found)) × T (every small (now row)) × (length (now row) ≡ rowLength) ⌝ }
-    ensures { λ _. ⌜ Relisted count (now (row .entry)) (listing (sideOf side) (held found)) (now (relations .entry)) (now (relations .exit)) ⌝ }
+    requires { ⌜ T (every small (rootsHeld found)) × T (every small (now row)) × (length (now row) ≡ rowLength) ⌝ }
+    ensures { λ _. ⌜ Relisted count (now (row .entry)) (listing (sideOf side) (rootsHeld found)) (now (relations .entry)) (now (relations .exit)) ⌝ }
 {
     let n = found.count;
     let mut k = 0;

@@ -76,7 +76,10 @@ fn last_root(
     while j < settled {
         let from = sides::report::diagonal_at(j, order[j], Side::Trailing, span);
         let to = from + COEFFICIENTS;
-        answer = larger(answer, roots::largest_root(&store[from..to]));
+        let most = multiplicities::largest_with(&store[from..to]);
+        let found = most.found;
+        let root = most.root;
+        answer = larger(answer, roots::RootAnswer { found, root });
         j += 1;
     }
     answer

@@ -24,7 +24,7 @@ fn take_steps(rows: &mut [i64], relations: &mut [i64], first: Progress, budget: 
     let mut p = first;
     let mut taken = 0;
     while taken < budget && p.settled < p.rows {
-        let o = reduction::step::step(rows, relations, Side::Leading, COLUMNS, SPAN, p);
+        let o = reduction::step::step(rows, relations, Side::Leading, SPAN, p);
         if o.refusal != 0 {
             return Moved { outcome: o, taken };
         }

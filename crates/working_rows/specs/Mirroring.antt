@@ -7,26 +7,28 @@
 --   Exchanged a b n before after    n numbers from place a on and n from place b on have changed places
 --   TurnedTo D b before after       of the blocks 0 to D the first b have changed places with the last b
 --   Turned D before after           all have, first with last
+--   mirroredOf D w      the mirror of a working row
 --
 -- Main statements
 --   alternate-even, alternate-odd   the sign of a coefficient in the mirror, by the parity of its power
 --   length-mirrorRow    the mirror has 336 numbers
 --   rowOf-mirrorRow     the mirror's numbers hold the mirror
---   number-mirrorRow    each number of the mirror
 --   small-mirrorRow     the mirror of a row with coefficients within ±C has such coefficients
 --   alternated-none, alternated-next, alternated-all   no sign changed, that of one odd place more, all
 --   exchanged-none, exchanged-next                     no number exchanged, one of each part more
 --   turned-none, turned-next, turned-all               no block exchanged, one pair more, all
---   mirror-numbers      signs changed and then blocks turned: the mirror's numbers
+--   numbers-mirrored, full-mirrored, small-mirrored, held-mirrored, width-mirrored
+--                       the mirror of a working row: its numbers, what they hold, and its width
+--   turned-left, mirrored-side   signs changed and then blocks turned: the mirror's left part; its right side
 use Prim.Native.Nat.{ℕ, zero, suc, _+_, _*_, _-_, _/_, _%_, _≤_, _<_, zero-le}
 use native.Mathlib.Nat.{le-refl, le-of-eq, suc-ne-zero, not-suc-le-zero}
 use native.Mathlib.Omega.{arith}
 use native.Mathlib.Decide.{ℕ-discrete, decLt}
-use mathlib.Core.Path.{_≡_, refl, sym, _∙_, ap, ap₂, subst}
+use mathlib.Core.Path.{_≡_, refl, sym, _∙_, ap, subst}
 use mathlib.Core.Logic.{_⊎_, inl, inr, ⊎-elim}
 use mathlib.Core.Bool.{Bool, true, false, cond}
-use mathlib.Core.List.{List, [], _++_, map, flatten, reverse}
-use borrow.Author.Tests.{leb-true, leb-false, lt-leb}
+use mathlib.Core.List.{List, [], _++_, map, reverse}
+use borrow.Author.Tests.{leb-true, leb-false}
 use lib.Dec.{T, leb}
 use lib.IntN.{ℤ, pos, negℤ, natAbs, negℤ-negℤ}
 use lib.ListN.{length, take, drop, getD, set, length-set, length-map, length-append, length-take, length-drop, length-reverse}
@@ -36,13 +38,16 @@ use Rattle.algebra.specs.Integers.{natAbs-negℤ}
 use Rattle.algebra.specs.Polynomials.{coeff, mirror, length-mirror}
 use Rattle.algebra.specs.Coefficients.{alternate, coeff-mirror}
 use Rattle.rules.specs.Limits.{entriesLength, rowLength, small, coefficientCount, columnCount, mostSpan, blockCount, blockLength}
-use Rattle.rules.specs.Rows.{Block, Row, coefficientsOf, mapRow, smallRow, mirrorRow}
+use Rattle.rules.specs.Rows.{Block, Row, coefficientsOf, mapRow, smallRow, width, mirrorRow}
 use Rattle.lists.specs.Everywhere.{All, all-getD, getD-all, map-keeps}
-use Rattle.lists.specs.Tests.{every, every-from-at, every-from-all}
+use Rattle.lists.specs.Tests.{T-&&, every, every-append, every-part, every-from-at, every-from-all}
 use Rattle.rules.specs.Stores.{rowOf, Shaped, StoreRow}
 use Rattle.rules.specs.Layout.{StoreRow-rowOf, polynomial-at-row, rowOf-coefficientsOf, length-entries, length-coefficientsOf}
 use Rattle.stores.specs.Flat.{length-blocks}
 use Rattle.lists.specs.Images.{getD-reverse}
+use Rattle.working_rows.specs.declared.WorkingRow.{WorkingRow}
+use Rattle.working_rows.specs.Working.{leftPart, workingOf, numbersHeld, Full, full-of, length-held}
+use Rattle.working_rows.specs.Working.{right-held, width-held}
 
 -- Block i of the mirror comes from block D - i; blocks past the D + 1 in use stay.
 unfoldable pub mirrorBlock : ℕ → ℕ → ℕ
@@ -142,24 +147,16 @@ number-at l b c k hb hc hk =
     ∙ getD-take coefficientCount (drop (b * blockLength + c * coefficientCount) l) k (pos 0) hk
     ∙ getD-drop (b * blockLength + c * coefficientCount) l k (pos 0)
 
--- The right side stays where it is.
-mirrorPlace-side : (D i : ℕ) → D ≤ mostSpan → entriesLength ≤ i → mirrorPlace D i ≡ i
-unfolding mirrorPlace mirrorBlock
-mirrorPlace-side D i few low =
-    let past : leb (i / blockLength) D ≡ false = lt-leb (i / blockLength) D (omega arith) in
-    let back : i / blockLength * blockLength + i % blockLength ≡ i = omega arith in
-    ap (λ t. cond t (D - i / blockLength) (i / blockLength) * blockLength + i % blockLength) past ∙ back
-
-mirrorPlace-entry : (D i : ℕ) → D ≤ mostSpan → i < entriesLength → mirrorPlace D i < rowLength
+mirrorPlace-entry : (D i : ℕ) → D ≤ mostSpan → i < entriesLength → mirrorPlace D i < entriesLength
 unfolding mirrorPlace
 mirrorPlace-entry D i few h = omega (arith, mirrorBlock-below D (i / blockLength) few (omega arith))
 
-pub mirrorPlace-below : (D i : ℕ) → D ≤ mostSpan → i < rowLength → mirrorPlace D i < rowLength
-mirrorPlace-below D i few h = cases (decLt i entriesLength)
-  where
-    cases : Dec (i < entriesLength) → mirrorPlace D i < rowLength
-    cases (yes e) = mirrorPlace-entry D i few e
-    cases (no e) = rw (mirrorPlace-side D i few (omega arith)) h
+mirror-small : (p : List ℤ) → T (every small p) → T (every small (mirror p))
+unfolding small coeff
+mirror-small p h =
+    every-from-all small (mirror p) (pos 0) 0
+    (λ i _ b. rw (coeff-mirror p i, natAbs-alternate)
+    (every-from-at small p (pos 0) 0 h i zero-le (rw length-mirror at b)))
 
 module _ (D : ℕ) (l : List ℤ) (few : D ≤ mostSpan) (long : length l ≡ rowLength) where
   abbrev mirrored : Row
@@ -202,36 +199,15 @@ module _ (D : ℕ) (l : List ℤ) (few : D ≤ mostSpan) (long : length l ≡ ro
   pub rowOf-mirrorRow : rowOf (coefficientsOf mirrored) ≡ mirrored
   rowOf-mirrorRow = rowOf-coefficientsOf mirrored StoreRow-mirrorRow
 
-  -- A number of the right side.
-  number-side : (i : ℕ) → entriesLength ≤ i → i < rowLength
-      → getD (coefficientsOf mirrored) i (pos 0) ≡ alternate (i % coefficientCount) (getD l (mirrorPlace D i) (pos 0))
-  unfolding coefficientsOf mirrorRow mapRow rowOf coeff
-  number-side i low h =
-      let entries = flatten (flatten (mirrored .blocks)) in
-      let long-entries = length-entries mirrored StoreRow-mirrorRow in
-      let place : i ≡ length entries + k = omega (arith, long-entries) in
-      ap (λ n. getD (coefficientsOf mirrored) n (pos 0)) place ∙ getD-append-add entries (mirror side) k (pos 0)
-      ∙ coeff-mirror side k
-      ∙ ap₂ alternate power (getD-take coefficientCount (drop entriesLength l) k (pos 0) (omega arith) ∙ getD-drop entriesLength l k (pos 0)
-      ∙ ap (λ n. getD l n (pos 0)) (back ∙ sym (mirrorPlace-side D i few low)))
-    where
-      k : ℕ
-      k = i - entriesLength
+  left-mirrorRow : length (leftPart mirrored) ≡ entriesLength
+  left-mirrorRow = length-entries mirrored StoreRow-mirrorRow
 
-      side : List ℤ
-      side = take coefficientCount (drop entriesLength l)
-
-      power : k ≡ i % coefficientCount
-      power = omega arith
-
-      back : entriesLength + k ≡ i
-      back = omega arith
-
-  number-entry : (i : ℕ) → i < entriesLength
-      → getD (coefficientsOf mirrored) i (pos 0) ≡ alternate (i % coefficientCount) (getD l (mirrorPlace D i) (pos 0))
-  unfolding mirrorPlace
-  number-entry i h =
-      ap (λ n. getD (coefficientsOf mirrored) n (pos 0)) place
+  number-mirrorRow : (i : ℕ) → i < entriesLength
+      → getD (leftPart mirrored) i (pos 0) ≡ alternate (i % coefficientCount) (getD l (mirrorPlace D i) (pos 0))
+  unfolding mirrorPlace coefficientsOf
+  number-mirrorRow i h =
+      sym (List·getD-append (leftPart mirrored) (mirrored .right) (pos 0) i (rw left-mirrorRow h))
+      ∙ ap (λ n. getD (coefficientsOf mirrored) n (pos 0)) place
       ∙ sym (number-at (coefficientsOf mirrored) (i / blockLength) (i % blockLength / coefficientCount)
       (i % coefficientCount) inside column power)
       ∙ ap (λ r. coeff (getD (getD (r .blocks) (i / blockLength) []) (i % blockLength / coefficientCount) [])
@@ -261,22 +237,17 @@ module _ (D : ℕ) (l : List ℤ) (few : D ≤ mostSpan) (long : length l ≡ ro
           ≡ source * blockLength + i % blockLength
       moved = omega arith
 
-  pub number-mirrorRow : (i : ℕ) → i < rowLength
-      → getD (coefficientsOf mirrored) i (pos 0) ≡ alternate (i % coefficientCount) (getD l (mirrorPlace D i) (pos 0))
-  number-mirrorRow i h = cases (decLt i entriesLength)
-    where
-      cases : Dec (i < entriesLength)
-          → getD (coefficientsOf mirrored) i (pos 0) ≡ alternate (i % coefficientCount) (getD l (mirrorPlace D i) (pos 0))
-      cases (yes e) = number-entry i e
-      cases (no e) = number-side i (omega arith) h
-
   pub small-mirrorRow : T (every small l) → T (smallRow mirrored)
-  unfolding smallRow small
-  small-mirrorRow h = every-from-all small (coefficientsOf mirrored) (pos 0) 0 (λ i _ b. each i (rw length-mirrorRow at b))
+  unfolding smallRow small coefficientsOf mirrorRow mapRow rowOf
+  small-mirrorRow h =
+      let side = mirror-small (rowOf l .right) (every-part small entriesLength coefficientCount l h) in
+      subst T (sym (every-append small (leftPart mirrored) (mirrored .right)))
+      (T-&& (every small (leftPart mirrored)) (every small (mirrored .right)) .1
+      (every-from-all small (leftPart mirrored) (pos 0) 0 (λ i _ b. each i (rw left-mirrorRow at b)), side))
     where
-      each : (i : ℕ) → i < rowLength → T (small (getD (coefficientsOf mirrored) i (pos 0)))
+      each : (i : ℕ) → i < entriesLength → T (small (getD (leftPart mirrored) i (pos 0)))
       each i b =
-          let source : mirrorPlace D i < length l = rw long (mirrorPlace-below D i few b) in
+          let source : mirrorPlace D i < length l = omega (arith, long, mirrorPlace-entry D i few b) in
           rw (number-mirrorRow i b, natAbs-alternate) (every-from-at small l (pos 0) 0 h (mirrorPlace D i) zero-le source)
 
 -- ---- signs changed where the numbers stand
@@ -502,15 +473,55 @@ mirrorPlace-parity : (D i : ℕ) → mirrorPlace D i % 2 ≡ i % coefficientCoun
 unfolding mirrorPlace
 mirrorPlace-parity D i = omega arith
 
--- The signs first, and then the blocks.
-pub mirror-numbers : (D : ℕ) (l after : List ℤ) → D ≤ mostSpan → length l ≡ rowLength → Turned D (mirror l) after
-    → after ≡ coefficientsOf (mirrorRow D (rowOf l))
-unfolding coeff
-mirror-numbers D l after few long t =
-    ext-getD (pos 0) after (coefficientsOf (mirrorRow D (rowOf l))) (size ∙ sym (length-mirrorRow D l few long))
-    (λ i h. t .numbers i ∙ coeff-mirror l (mirrorPlace D i)
-    ∙ alternate-parity (mirrorPlace D i) (i % coefficientCount) (getD l (mirrorPlace D i) (pos 0)) (mirrorPlace-parity D i)
-    ∙ sym (number-mirrorRow D l few long i (rw size at h)))
-  where
-    size : length after ≡ rowLength
-    size = t .same-length ∙ length-mirror l ∙ long
+-- ---- a working row
+
+-- Its mirror.
+abbrev pub mirroredOf : ℕ → WorkingRow → WorkingRow
+mirroredOf D w = let m = mirrorRow D (rowOf (numbersHeld w)) in workingOf (leftPart m) (m .right)
+
+module _ (D : ℕ) (w : WorkingRow) (few : D ≤ mostSpan) (full : Full w) where
+  abbrev m : Row
+  m = mirrorRow D (rowOf (numbersHeld w))
+
+  pub numbers-mirrored : numbersHeld (mirroredOf D w) ≡ coefficientsOf m
+  unfolding coefficientsOf
+  numbers-mirrored = refl
+
+  pub full-mirrored : Full (mirroredOf D w)
+  unfolding Shaped
+  full-mirrored =
+      let shape = StoreRow-mirrorRow D (numbersHeld w) few (length-held w full) in
+      full-of (leftPart m) (m .right) (length-entries m shape) (shape .2)
+
+  pub small-mirrored : T (every small (numbersHeld w)) → T (every small (numbersHeld (mirroredOf D w)))
+  unfolding smallRow coefficientsOf
+  small-mirrored = small-mirrorRow D (numbersHeld w) few (length-held w full)
+
+  pub held-mirrored : rowOf (numbersHeld (mirroredOf D w)) ≡ m
+  held-mirrored = ap rowOf numbers-mirrored ∙ rowOf-mirrorRow D (numbersHeld w) few (length-held w full)
+
+  pub width-mirrored : mirroredOf D w .width ≡ width m
+  width-mirrored =
+      sym (width-held (leftPart m) (m .right) (full-mirrored .entries-long)) ∙ ap width held-mirrored
+
+  -- The signs first, and then the blocks.
+  pub turned-left : (after : List ℤ) → Turned D (mirror (w .entries)) after → after ≡ leftPart m
+  unfolding coeff
+  turned-left after t =
+      ext-getD (pos 0) after (leftPart m) (size ∙ sym (full-mirrored .entries-long)) (λ i h. number i (rw size at h))
+    where
+      size : length after ≡ entriesLength
+      size = t .same-length ∙ length-mirror (w .entries) ∙ full .entries-long
+
+      number : (i : ℕ) → i < entriesLength → getD after i (pos 0) ≡ getD (leftPart m) i (pos 0)
+      number i h =
+          let from = mirrorPlace D i in
+          let inside : from < length (w .entries) = rw (full .entries-long) (mirrorPlace-entry D i few h) in
+          t .numbers i ∙ coeff-mirror (w .entries) from
+          ∙ alternate-parity from (i % coefficientCount) (getD (w .entries) from (pos 0)) (mirrorPlace-parity D i)
+          ∙ ap (alternate (i % coefficientCount)) (sym (List·getD-append (w .entries) (w .right) (pos 0) from inside))
+          ∙ sym (number-mirrorRow D (numbersHeld w) few (length-held w full) i h)
+
+  pub mirrored-side : m .right ≡ mirror (w .right)
+  unfolding mirrorRow mapRow
+  mirrored-side = ap mirror (right-held (w .entries) (w .right) (full .entries-long) (full .right-long))

@@ -6,43 +6,43 @@
 --
 -- Main statements
 --   coeff-shift-front, shift-past   the coefficients up to the highest nonzero one have the shift of all, and past it there is none
---   length-shiftUp, length-shifted   those of the left part are as many as a left part has, and all as many as a row has
+--   shifted-width     the shifted row is one block narrower
+--   length-shiftUp    the numbers of its left part are as many as a left part has
 --   shiftUp-part      polynomial e is p(n + 1) for the polynomial p one block further down
---   shiftUp-rest      the last block is zero
---   shiftUp-past      with n + 1 for n, what comes past the last block in use is zero
---   shifted-left, shifted-numbers   the left part and the right side are shifted apart
---   shifted-held      a shifted row within the limit is held by its numbers
+--   rowOf-shifted, shifted-held   the shifted row is held by its numbers, which are within ±C where it is within the limit
 --   length-over, over-behind, over-next, small-next   as long as before, and the same behind; one polynomial more is overwritten
---   over-cleared, side-behind, over-side, small-front   the last block in use made zero, the right side, and which numbers decide the limit
+--   shifted-numbers, shifted-narrower   the left part and the right side are shifted apart, the left part being narrower
+--   over-cleared, small-front   the last block in use made zero, and which numbers decide the limit
 use mathlib.Core.Path.{_≡_, refl, sym, _∙_, ap, ap₂, subst}
-use mathlib.Core.Bool.{_&&_, and-true}
-use mathlib.Core.List.{List, [], _∷_, _++_, map, flatten, append-nil, append-assoc, map-append}
-use Prim.Native.Nat.{ℕ, _+_, _*_, _-_, _≤_, _<_}
+use mathlib.Core.Bool.{Bool, true, false, _&&_, and-true, cond}
+use mathlib.Core.List.{List, [], _∷_, _++_, map, tail, flatten, append-nil, append-assoc, map-append}
+use Prim.Native.Nat.{ℕ, zero, suc, _+_, _*_, _-_, _≤_, _<_}
 use native.Mathlib.Nat.{add-comm, le-refl, le-of-eq}
 use native.Mathlib.Omega.{arith}
-use lib.Dec.{T}
+use lib.Dec.{T, eqb, eqb·suc-zero}
 use lib.IntN.{ℤ, pos, _*ℤ_, *ℤ-zero}
 use lib.ListN.{length, take, drop, replicate, length-append, length-take, length-drop, length-map, length-replicate, List·getD-map}
-use lib.ListN.{take-append-drop, drop-of-length-le, replicate-append-replicate}
-use lib.Seq.{paste, take-at, take-all, take-add, take-take, drop-at, drop-drop, drop-append-le, length-take-le}
+use lib.ListN.{take-append-drop, replicate-append-replicate}
+use lib.Seq.{paste, take-at, take-all, take-add, take-take, drop-at, drop-drop, length-take-le}
 use Rattle.algebra.specs.Polynomials.{Polynomial, coeff, degree, isZero, shift, shiftBy, length-shift}
-use Rattle.algebra.specs.Polynomials.{isZero-append, isZero-shift, coeff-isZero, zero-list}
+use Rattle.algebra.specs.Polynomials.{isZero-shift, coeff-isZero, zero-list}
 use Rattle.algebra.specs.Sums.{sumBelow, sumBelow-congr, sumBelow-extend}
 use Rattle.algebra.specs.Coefficients.{coeff-take, coeff-drop, coeff-past-length, coeff-past-degree}
 use Rattle.algebra.specs.Binomials.{binomial, coeff-shift}
-use Rattle.lists.specs.Tests.{true-of, T-&&, every, every-append}
-use Rattle.rules.specs.Rows.{Block, Row, mapRow, coefficientsOf, blank, leadingBlock, shiftUp}
+use Rattle.lists.specs.Tests.{true-of, every, every-append}
+use Rattle.rules.specs.Rows.{Block, Row, mapRow, coefficientsOf, zeroBlock, width, widthOf, blank}
+use Rattle.rules.specs.Rows.{leadingBlock, shiftUp}
 use Rattle.lists.specs.Everywhere.{All, append-all, map-keeps}
 use Rattle.lists.specs.Joined.{flatten-append, length-flatten, flatten-map}
-use Rattle.rules.specs.Limits.{rowLength, coefficientCount, columnCount, mostSpan, blockCount, polynomialCount, blockLength, entriesLength, small}
+use Rattle.rules.specs.Limits.{coefficientCount, columnCount, mostSpan, polynomialCount, blockLength, entriesLength}
+use Rattle.rules.specs.Limits.{rowLength, small}
 use Rattle.rules.specs.Stores.{rowOf, StoreRow}
 use Rattle.lists.specs.Parts.{parts, parts-length, parts-width, getD-parts, part-flatten, parts-parts}
 use Rattle.rules.specs.Elimination.{within, limitCoefficients}
-use Rattle.rules.specs.Layout.{length-coefficientsOf, blockOf, coefficientsAt}
-use Rattle.stores.specs.Flat.{isZero-split}
+use Rattle.rules.specs.Layout.{rowOf-coefficientsOf, blockOf, coefficientsAt}
 use Rattle.stores.specs.Checks.{zero-small}
-use Rattle.working_rows.specs.Found.{zero-later, zero-from}
-use Rattle.working_rows.specs.Working.{leftPart, blocks-held, right-held}
+use Rattle.working_rows.specs.Found.{zero-later, width-most, width-rest}
+use Rattle.working_rows.specs.Working.{leftPart, blocks-held, right-held, width-held}
 use Rattle.working_rows.specs.Worked.{Held, held, store-row}
 
 -- The coefficients up to the highest nonzero one have the shift of all.
@@ -88,24 +88,56 @@ left-shiftUp l =
 left-numbers : (l : List ℤ) → leftPart (shiftUp (rowOf l)) ≡ flatten (map shift (below l)) ++ flatten (map shift (last l))
 left-numbers l = ap flatten (left-shiftUp l) ∙ flatten-append (map shift (below l)) (map shift (last l))
 
--- ---- widths
+-- ---- the width
+
+zero-shift : (b : Block) → zeroBlock (map shift b) ≡ zeroBlock b
+unfolding zeroBlock every
+zero-shift [] = refl
+zero-shift (p ∷ b) = ap₂ _&&_ (isZero-shift p) (zero-shift b)
+
+zero-blank : (b : Block) → zeroBlock (blank b) ≡ true
+unfolding zeroBlock blank every isZero
+zero-blank [] = refl
+zero-blank (p ∷ b) = ap₂ _&&_ (zeros p) (zero-blank b)
+  where
+    zeros : (q : Polynomial) → isZero (map (λ _. pos 0) q) ≡ true
+    zeros [] = refl
+    zeros (a ∷ q) = zeros q
+
+widthOf-shift : (bs : List Block) → widthOf (map (map shift) bs) ≡ widthOf bs
+unfolding widthOf
+widthOf-shift [] = refl
+widthOf-shift (b ∷ bs) = ap₂ (λ w t. cond (eqb w 0 && t) 0 (suc w)) (widthOf-shift bs) (zero-shift b)
+
+widthOf-last : (bs : List Block) (b : Block) → zeroBlock b ≡ true → widthOf (bs ++ (b ∷ [])) ≡ widthOf bs
+unfolding widthOf
+widthOf-last [] b z = ap (λ t. cond t 0 1) z
+widthOf-last (a ∷ bs) b z = ap (λ w. cond (eqb w 0 && zeroBlock a) 0 (suc w)) (widthOf-last bs b z)
+
+widthOf-tail : (bs : List Block) → widthOf (tail bs) ≡ widthOf bs - 1
+unfolding widthOf
+widthOf-tail [] = refl
+widthOf-tail (b ∷ bs) = cases (widthOf bs) (zeroBlock b)
+  where
+    cases : (w : ℕ) (t : Bool) → w ≡ cond (eqb w 0 && t) 0 (suc w) - 1
+    cases zero true = refl
+    cases zero false = refl
+    cases (suc w) t =
+        let less : suc (suc w) - 1 ≡ suc w = omega arith in
+        sym (ap (λ u. cond (u && t) 0 (suc (suc w)) - 1) (eqb·suc-zero w) ∙ less)
+
+-- A row shifted up is one block narrower; one of width 0 stays so.
+pub shifted-width : (r : Row) → width (shiftUp r) ≡ width r - 1
+unfolding width shiftUp mapRow leadingBlock
+shifted-width r =
+    widthOf-shift (tail (r .blocks) ++ (blank (leadingBlock r) ∷ []))
+    ∙ widthOf-last (tail (r .blocks)) (blank (leadingBlock r)) (zero-blank (leadingBlock r)) ∙ widthOf-tail (r .blocks)
+
+-- ---- lengths
 
 map-width : (f : Polynomial → Polynomial) → ((p : Polynomial) → length (f p) ≡ length p) → (k : ℕ) (ps : List Polynomial)
     → All (λ p. length p ≡ k) ps → All (λ p. length p ≡ k) (map f ps)
 map-width f e k ps h = map-keeps (λ p. length p ≡ k) (λ p. length p ≡ k) f (λ p w. e p ∙ w) ps h
-
-zeros-zero : (p : Polynomial) → T (isZero (map (λ _. pos 0) p))
-unfolding isZero
-zeros-zero [] = tt
-zeros-zero (a ∷ p) = zeros-zero p
-
-blank-zero : (ps : List Polynomial) → T (isZero (flatten (map shift (blank ps))))
-unfolding blank flatten isZero
-blank-zero [] = tt
-blank-zero (p ∷ ps) = step (shift (map (λ _. pos 0) p)) _ (rw (isZero-shift (map (λ _. pos 0) p)) (zeros-zero p)) (blank-zero ps)
-  where
-    step : (q r : Polynomial) → T (isZero q) → T (isZero r) → T (isZero (q ++ r))
-    step q r y z = rw (isZero-append q r) (T-&& (isZero q) (isZero r) .1 (y, z))
 
 -- The left part, of the numbers that hold it.
 module _ (l : List ℤ) (long : entriesLength ≤ length l) where
@@ -141,15 +173,6 @@ module _ (l : List ℤ) (long : entriesLength ≤ length l) where
       ap length (left-numbers l) ∙ length-append (flatten (map shift (below l))) (flatten (map shift (last l)))
       ∙ ap₂ _+_ below-length last-length
 
-  pub shiftUp-rest : T (isZero (drop (movedCount * coefficientCount) (leftPart (shiftUp (rowOf l)))))
-  unfolding last
-  shiftUp-rest =
-      rw (
-        left-numbers l,
-        drop-at (flatten (map shift (below l))) (flatten (map shift (last l))) (movedCount * coefficientCount) below-length,
-      )
-      (blank-zero (blockOf (take blockLength l)))
-
   pub shiftUp-part : (e : ℕ) → e < movedCount
       → coefficientsAt (leftPart (shiftUp (rowOf l))) e ≡ shift (take coefficientCount (drop (e * coefficientCount + blockLength) l))
   unfolding below shift shiftBy
@@ -179,22 +202,12 @@ module _ (l : List ℤ) (long : length l ≡ rowLength) where
       (last-width l enough)))
       (side-width, tt))
 
-  pub length-shifted : length (coefficientsOf (shiftUp (rowOf l))) ≡ rowLength
-  length-shifted = length-coefficientsOf (shiftUp (rowOf l)) StoreRow-shiftUp
+  pub rowOf-shifted : rowOf (coefficientsOf (shiftUp (rowOf l))) ≡ shiftUp (rowOf l)
+  rowOf-shifted = rowOf-coefficientsOf (shiftUp (rowOf l)) StoreRow-shiftUp
 
   -- A shifted row within the limit is held by its numbers.
   pub shifted-held : (r : Row) → limitCoefficients (shiftUp (rowOf l)) ≡ within r → Held r
   shifted-held r e = held (shiftUp (rowOf l)) r StoreRow-shiftUp e
-
--- The entries and the right side are shifted apart.
-module _ (e s : List ℤ) (h : length e ≡ entriesLength) where
-  pub shifted-left : leftPart (shiftUp (rowOf (e ++ s))) ≡ leftPart (shiftUp (rowOf e))
-  unfolding shiftUp mapRow leadingBlock
-  shifted-left = ap (λ bs. leftPart (shiftUp (record { blocks = bs; right = [] }))) (blocks-held e s h)
-
-  pub shifted-numbers : length s ≡ coefficientCount → coefficientsOf (shiftUp (rowOf (e ++ s))) ≡ leftPart (shiftUp (rowOf e)) ++ shift s
-  unfolding shiftUp mapRow leadingBlock coefficientsOf
-  shifted-numbers k = ap₂ (λ a b. a ++ shift b) shifted-left (right-held e s h k)
 
 -- ---- a shift written over the row
 
@@ -237,81 +250,75 @@ module _ (l d : List ℤ) (e : ℕ) (inside : e * coefficientCount + coefficient
       ap (λ n. every small (take n l)) sum ∙ ap (every small) (take-add at coefficientCount l)
       ∙ every-append small (take at l) (coefficientsAt l e)
 
--- A part past a place from which on there are zeros.
-zero-part : (a b n : ℕ) (l : List ℤ) → a ≤ b → T (isZero (drop a l)) → T (isZero (take n (drop b l)))
-zero-part a b n l h z =
-    T-&& (isZero (take n (drop b l))) (isZero (drop (b + n) l)) .0 (subst T (isZero-split n b l) (zero-later a b l h z)) .0
-
--- A row that is zero past its first blocks, of which the last is not counted here.
-module _ (e s : List ℤ) (long : length e ≡ entriesLength) (blocks : ℕ) (few : blocks < blockCount)
-    (rest : T (isZero (drop ((blocks + 1) * blockLength) e))) where
+-- The entries and the right side of a row, shifted apart.
+module _ (e s : List ℤ) (long : length e ≡ entriesLength) (size : length s ≡ coefficientCount) where
   abbrev shifted : List ℤ
   shifted = leftPart (shiftUp (rowOf e))
 
-  abbrev front : ℕ
-  front = blocks * blockLength
+  pub shifted-long : length shifted ≡ entriesLength
+  shifted-long = length-shiftUp e (le-of-eq (sym long))
 
-  enough : entriesLength ≤ length e
-  enough = le-of-eq (sym long)
+  pub shifted-numbers : coefficientsOf (shiftUp (rowOf (e ++ s))) ≡ shifted ++ shift s
+  unfolding shiftUp mapRow leadingBlock coefficientsOf
+  shifted-numbers =
+      ap₂ (λ bs q. leftPart (shiftUp (record { blocks = bs; right = [] })) ++ shift q) (blocks-held e s long)
+      (right-held e s long size)
 
-  shifted-long : length shifted ≡ entriesLength
-  shifted-long = length-shiftUp e enough
+  pub shifted-narrower : width (rowOf shifted) ≡ width (rowOf e) - 1
+  shifted-narrower =
+      sym (width-held shifted (shift s) shifted-long) ∙ ap (λ l. width (rowOf l)) (sym shifted-numbers)
+      ∙ ap width (rowOf-shifted (e ++ s) (length-append e s ∙ ap₂ _+_ long size)) ∙ shifted-width (rowOf (e ++ s))
+      ∙ ap (λ w. w - 1) (width-held e s long)
 
-  pub shiftUp-past : T (isZero (drop front shifted))
-  shiftUp-past =
-      let places : blocks * columnCount * coefficientCount ≡ front = omega arith in
-      subst (λ n. T (isZero (drop n shifted))) places
-      (zero-from coefficientCount movedCount shifted (shiftUp-rest e enough) (movedCount - blocks * columnCount) (blocks * columnCount)
-      (omega arith)
-      (λ i h inside. rw (shiftUp-part e enough i inside, isZero-shift)
-      (zero-part ((blocks + 1) * blockLength) (i * coefficientCount + blockLength) coefficientCount e (omega arith) rest)))
+  -- As many blocks as stay in use move up.
+  module _ (blocks : ℕ) (narrower : blocks ≡ width (rowOf e) - 1) where
+    abbrev front : ℕ
+    front = blocks * blockLength
 
-  pub over-cleared : paste (overFront shifted (e ++ s) front) front (replicate blockLength (pos 0)) blockLength ≡ shifted ++ s
-  over-cleared =
-      let taken = length-take-le front shifted (omega (arith, shifted-long)) in
-      let written = overFront shifted (e ++ s) front in
-      let past : drop (front + blockLength) written ≡ drop (front + blockLength) e ++ s =
-      sym (drop-drop blockLength front written) ∙ ap (drop blockLength) (drop-at (take front shifted) (drop front (e ++ s)) front taken)
-      ∙ drop-drop blockLength front (e ++ s) ∙ drop-append-le (front + blockLength) e s (omega arith)
-      in
-      ap₂ (λ a b. a ++ take blockLength (replicate blockLength (pos 0)) ++ b)
-      (take-at (take front shifted) (drop front (e ++ s)) front taken) past
-      ∙ ap (λ z. take front shifted ++ z ++ (drop (front + blockLength) e ++ s))
-      (take-all blockLength (replicate blockLength (pos 0)) (le-of-eq (length-replicate blockLength (pos 0))))
-      ∙ append-assoc (take front shifted) zeros (drop (front + blockLength) e ++ s)
-      ∙ ap (λ r. take front shifted ++ r) (sym (append-assoc zeros (drop (front + blockLength) e) s) ∙ ap (λ r. r ++ s) (sym past-zeros))
-      ∙ sym (append-assoc (take front shifted) (drop front shifted) s) ∙ ap (λ r. r ++ s) (take-append-drop front shifted)
-    where
-      zeros : List ℤ
-      zeros = replicate blockLength (pos 0)
+    room : front + blockLength ≤ entriesLength
+    room = omega (arith, narrower, width-most e)
 
-      past-zeros : drop front shifted ≡ zeros ++ drop (front + blockLength) e
-      past-zeros =
-          let behind : (blocks + 1) * blockLength ≡ front + blockLength = omega arith in
-          let none : T (isZero (drop (front + blockLength) e)) = subst (λ n. T (isZero (drop n e))) behind rest in
-          let count : length (drop front shifted) ≡ blockLength + length (drop (front + blockLength) e) =
-          simp length-drop (omega (arith, shifted-long)) in
-          zero-list (drop front shifted) shiftUp-past ∙ ap (λ n. replicate n (pos 0)) count
-          ∙ sym (replicate-append-replicate blockLength (length (drop (front + blockLength) e)) (pos 0))
-          ∙ ap (λ r. zeros ++ r) (sym (zero-list (drop (front + blockLength) e) none))
+    zeros-past : T (isZero (drop front shifted))
+    zeros-past =
+        subst (λ w. T (isZero (drop (w * blockLength) shifted))) (shifted-narrower ∙ sym narrower)
+        (width-rest shifted shifted-long)
 
-  -- The right side behind the shifted left part, before its shift is put in its place and then.
-  module _ (size : length s ≡ coefficientCount) where
-    pub side-behind : take coefficientCount (drop entriesLength (shifted ++ s)) ≡ s
-    side-behind = ap (take coefficientCount) (drop-at shifted s entriesLength shifted-long) ∙ take-all coefficientCount s (le-of-eq size)
+    -- The last block in use is made zero, and past it there are zeros already.
+    pub over-cleared : paste (overFront shifted e front) front (replicate blockLength (pos 0)) blockLength ≡ shifted
+    over-cleared =
+        let fits : front ≤ length shifted = omega (arith, shifted-long, room) in
+        let taken = length-take-le front shifted fits in
+        ap₂ (λ a b. a ++ take blockLength zeros ++ b) (take-at (take front shifted) (drop front e) front taken)
+        (over-behind shifted e front fits (front + blockLength) (omega arith))
+        ∙ ap (λ z. take front shifted ++ z ++ behind)
+        (take-all blockLength zeros (le-of-eq (length-replicate blockLength (pos 0))))
+        ∙ append-assoc (take front shifted) zeros behind ∙ ap (λ r. take front shifted ++ r) (sym past)
+        ∙ take-append-drop front shifted
+      where
+        zeros : List ℤ
+        zeros = replicate blockLength (pos 0)
 
-    pub over-side : paste (shifted ++ s) entriesLength (shift s) coefficientCount ≡ shifted ++ shift s
-    over-side =
-        ap₂ (λ a b. a ++ b ++ drop (entriesLength + coefficientCount) (shifted ++ s)) (take-at shifted s entriesLength shifted-long)
-        (take-all coefficientCount (shift s) (le-of-eq (length-shift s ∙ size)))
-        ∙ ap (λ b. shifted ++ shift s ++ b)
-        (drop-of-length-le (shifted ++ s) (le-of-eq (length-append shifted s ∙ ap₂ _+_ shifted-long size)))
-        ∙ append-nil (shifted ++ shift s)
+        behind : List ℤ
+        behind = drop (front + blockLength) e
 
-  pub small-front : every small (shifted ++ shift s) ≡ (every small (take front shifted) && every small (shift s))
-  small-front =
-      every-append small shifted (shift s)
-      ∙ ap (λ t. t && every small (shift s))
-      (ap (every small) (sym (take-append-drop front shifted)) ∙ every-append small (take front shifted) (drop front shifted)
-      ∙ ap (λ t. every small (take front shifted) && t) (true-of _ (zero-small (drop front shifted) shiftUp-past))
-      ∙ and-true (every small (take front shifted)))
+        none : T (isZero behind)
+        none =
+            zero-later (width (rowOf e) * blockLength) (front + blockLength) e (omega (arith, narrower))
+            (width-rest e long)
+
+        past : drop front shifted ≡ zeros ++ behind
+        past =
+            let count : length (drop front shifted) ≡ blockLength + length behind =
+            simp length-drop (omega (arith, shifted-long, room)) in
+            zero-list (drop front shifted) zeros-past ∙ ap (λ n. replicate n (pos 0)) count
+            ∙ sym (replicate-append-replicate blockLength (length behind) (pos 0))
+            ∙ ap (λ r. zeros ++ r) (sym (zero-list behind none))
+
+    pub small-front : every small (shifted ++ shift s) ≡ (every small (take front shifted) && every small (shift s))
+    small-front =
+        every-append small shifted (shift s)
+        ∙ ap (λ t. t && every small (shift s))
+        (ap (every small) (sym (take-append-drop front shifted))
+        ∙ every-append small (take front shifted) (drop front shifted)
+        ∙ ap (λ t. every small (take front shifted) && t) (true-of _ (zero-small (drop front shifted) zeros-past))
+        ∙ and-true (every small (take front shifted)))

@@ -9,12 +9,12 @@
 --
 -- Main statements
 --   numbers-worked the numbers of that working row
+--   worked-held    a full row whose width is right is the one of the row that its numbers hold
 --   limit-within, limit-beyond   the answer for numbers that are all within ±C, and for others
---   refused-beyond a refusal is the number of a limit
 --   limit-zero     a row that is let through is the row itself
 --   held           a row of a store's shape that is within the limit is held by its numbers
 --   store-row      that shape, by the polynomials of the row
-use mathlib.Core.Path.{_≡_, refl, sym, _∙_, ap, subst}
+use mathlib.Core.Path.{_≡_, refl, sym, _∙_, ap, ap₂, subst}
 use mathlib.Core.Bool.{Bool, true, false, cond}
 use mathlib.Core.List.{List, [], _∷_, _++_, flatten}
 use Prim.Native.Nat.{ℕ}
@@ -22,15 +22,16 @@ use native.Mathlib.Omega.{arith}
 use lib.Dec.{T}
 use lib.IntN.{ℤ, pos}
 use lib.ListN.{length, replicate, replicate-append-replicate}
+use lib.Seq.{take-at}
 use Rattle.rules.specs.Limits.{entriesLength, rowLength, small, coefficientCount, columnCount, blockCount}
-use Rattle.rules.specs.Rows.{Block, Row, coefficientsOf, smallRow}
+use Rattle.rules.specs.Rows.{Block, Row, coefficientsOf, smallRow, width}
 use Rattle.lists.specs.Everywhere.{All}
 use Rattle.lists.specs.Tests.{every}
 use Rattle.rules.specs.Stores.{rowOf, Shaped, StoreRow}
-use Rattle.rules.specs.Layout.{rowOf-coefficientsOf, length-coefficientsOf}
+use Rattle.rules.specs.Layout.{entries-rowOf, rowOf-coefficientsOf, length-coefficientsOf}
 use Rattle.stores.specs.Flat.{polynomialsOf}
 use Rattle.working_rows.specs.declared.WorkingRow.{WorkingRow}
-use Rattle.working_rows.specs.Working.{leftPart, workingOf, numbersHeld}
+use Rattle.working_rows.specs.Working.{leftPart, workingOf, numbersHeld, Full, right-held}
 use Rattle.rules.specs.Elimination.{Limited, within, beyond, limitCoefficients}
 
 unfoldable pub refusalOf : Limited → ℕ
@@ -52,6 +53,19 @@ pub numbers-worked : (x : Limited) → numbersHeld (workedRow x) ≡ numbersOf x
 unfolding workedRow numbersOf coefficientsOf
 numbers-worked (within r) = refl
 numbers-worked (beyond n) = replicate-append-replicate entriesLength coefficientCount (pos 0)
+
+-- A full row whose width is right is the one of the row that its numbers hold.
+pub worked-held : (w : WorkingRow) → Full w → w .width ≡ width (rowOf (w .entries))
+    → w ≡ workedRow (within (rowOf (numbersHeld w)))
+unfolding workedRow
+worked-held w full wide =
+    (λ k. record { entries = w .entries; right = w .right; width = wide k }) ∙ sym (ap₂ workingOf left side)
+  where
+    left : leftPart (rowOf (numbersHeld w)) ≡ w .entries
+    left = entries-rowOf (numbersHeld w) ∙ take-at (w .entries) (w .right) entriesLength (full .entries-long)
+
+    side : rowOf (numbersHeld w) .right ≡ w .right
+    side = right-held (w .entries) (w .right) (full .entries-long) (full .right-long)
 
 -- The code's refusal number and row are those of x.
 abbrev pub Shown : ℕ → WorkingRow → Limited → Type 0
@@ -79,12 +93,6 @@ limit-zero r e = go (smallRow r) e
     go : (t : Bool) → refusalOf (cond t (within r) (beyond 8)) ≡ 0 → cond t (within r) (beyond 8) ≡ within r
     go true h = refl
     go false h = absurd (omega arith)
-
--- A refusal is all that is left of a row past the limit.
-pub refused-beyond : (x : Limited) → (refusalOf x ≡ 0 → ⊥) → x ≡ beyond (refusalOf x)
-unfolding refusalOf
-refused-beyond (within r) h = absurd (h refl)
-refused-beyond (beyond n) h = refl
 
 -- ---- rows within the limits
 

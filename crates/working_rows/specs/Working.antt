@@ -8,7 +8,7 @@
 --   loaded store at      the row that a store holds from a place on
 --
 -- Main statements
---   full-of, width-of, full-loaded, numbers-loaded, loaded-row   a row made of full arrays, and one loaded from a store
+--   full-of, width-of, full-loaded, numbers-loaded, width-loaded   a row made of full arrays, and one loaded from a store
 --   length-held          a full row has the numbers of a row
 --   small-apart          both parts are within ±C where all the numbers are
 --   blocks-held, right-held, width-held, leading-held, entry-held   what its numbers hold
@@ -16,7 +16,7 @@
 --   width-zero           the width is 0 exactly if the left part is zero
 --   paste-joined         two lists put into a store one behind the other
 use Prim.Native.Nat.{ℕ, suc, _+_, _-_, _≤_}
-use native.Mathlib.Nat.{zero-add, le-of-eq, le-refl, add-assoc}
+use native.Mathlib.Nat.{le-of-eq, le-refl, add-assoc}
 use native.Mathlib.Omega.{arith}
 use mathlib.Core.Path.{_≡_, refl, sym, _∙_, ap, ap₂, subst}
 use mathlib.Core.Bool.{Bool, true, false, _&&_, cond}
@@ -28,9 +28,9 @@ use lib.Seq.{paste, take-at, take-all, take-add, drop-at, drop-drop, take-paste,
 use Rattle.lists.specs.Parts.{parts, parts-take}
 use Rattle.lists.specs.Tests.{T-&&, every, every-append}
 use Rattle.rules.specs.Limits.{coefficientCount, blockCount, blockLength, entriesLength, rowLength, small}
-use Rattle.rules.specs.Rows.{Block, Row, coefficientsOf, zeroBlock, zeroLeft, width, widthOf, leadingBlock, entry}
+use Rattle.rules.specs.Rows.{Block, Row, zeroBlock, zeroLeft, width, widthOf, leadingBlock, entry}
 use Rattle.rules.specs.Stores.{rowOf}
-use Rattle.rules.specs.Layout.{blockOf, entries-rowOf}
+use Rattle.rules.specs.Layout.{blockOf}
 use Rattle.working_rows.specs.declared.WorkingRow.{WorkingRow}
 
 abbrev pub leftPart : Row → List ℤ
@@ -68,13 +68,6 @@ module _ (store : List ℤ) (at : ℕ) where
       ap (λ l. take entriesLength (drop at store) ++ take coefficientCount l) (sym (drop-drop entriesLength at store))
       ∙ sym (take-add entriesLength coefficientCount (drop at store))
 
--- A row that its numbers hold, as it is loaded.
-pub loaded-row : (r : Row) → rowOf (coefficientsOf r) ≡ r → loaded (coefficientsOf r) 0 ≡ workingOf (leftPart r) (r .right)
-unfolding rowOf
-loaded-row r e =
-    ap₂ workingOf (sym (entries-rowOf (coefficientsOf r)) ∙ ap leftPart e)
-    (ap (λ k. take coefficientCount (drop k (coefficientsOf r))) (zero-add entriesLength) ∙ ap (λ q. q .right) e)
-
 pub length-held : (w : WorkingRow) → Full w → length (numbersHeld w) ≡ rowLength
 length-held w h = length-append (w .entries) (w .right) ∙ ap₂ _+_ (h .entries-long) (h .right-long)
 
@@ -107,6 +100,13 @@ module _ (e s : List ℤ) (long : length e ≡ entriesLength) where
   pub entry-held : entry (rowOf (e ++ s)) ≡ entry (rowOf e)
   unfolding entry leadingBlock
   entry-held = ap (λ bs c. getD (getD bs 0 []) c []) blocks-held
+
+-- The width of a row that a store holds is that of the row loaded from it.
+pub width-loaded : (store : List ℤ) (at : ℕ) → at + rowLength ≤ length store
+    → width (rowOf (take rowLength (drop at store))) ≡ loaded store at .width
+width-loaded store at h =
+    ap (λ l. width (rowOf l)) (sym (numbers-loaded store at))
+    ∙ width-held (loaded store at .entries) (loaded store at .right) (full-loaded store at h .entries-long)
 
 -- ---- the parts of a row, where it stands
 

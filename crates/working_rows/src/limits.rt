@@ -4,9 +4,12 @@ use polynomials::lengths::COEFFICIENTS;
 use stores::lengths::ENTRIES;
 ghost use mathlib.Core.Path.{_≡_};
 ghost use lib.ListN.{length};
-ghost use Rattle.rules.specs.Limits.{rowLength};
+ghost use Rattle.lists.specs.Tests.{every};
+ghost use Rattle.rules.specs.Limits.{rowLength, small};
+ghost use Rattle.rules.specs.Rows as Rows;
 ghost use Rattle.rules.specs.Stores.{rowOf};
 ghost use Rattle.rules.specs.Elimination.{limitCoefficients, consistent, within, beyond};
+ghost use Rattle.working_rows.specs.Working.{numbersHeld, Full};
 ghost use Rattle.working_rows.specs.Worked.{refusalOf, workedRow};
 
 // A new row, or the number of the limit that it breaks and zeros.
@@ -25,6 +28,19 @@ pub fn broken(refusal: u8) -> Worked
         width: 0,
     };
     Worked { refusal, row }
+}
+
+// A row, or 8 where a coefficient is past ±C, on the right side too (SCOPE 2.44). Whether all are within is known already.
+pub fn limited(row: WorkingRow, within: bool) -> Worked
+    requires { ⌜
+        Full row × (row .width ≡ Rows.width (rowOf (row .entries))) × (within ≡ every small (numbersHeld row)) ⌝ }
+    ensures { λ r. ⌜ (r .refusal ≡ refusalOf (limitCoefficients (rowOf (numbersHeld row))))
+        × (r .row ≡ workedRow (limitCoefficients (rowOf (numbersHeld row)))) ⌝ }
+{
+    if !within {
+        return broken(8);
+    }
+    Worked { refusal: 0, row }
 }
 
 // The numbers of a row within ±C whose left part alone is zero are refused with 10 (SCOPE 2.46). Without a right side there is none.

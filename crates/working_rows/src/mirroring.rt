@@ -1,71 +1,64 @@
 // The mirror: block -s for s and -n for n.
+use crate::WorkingRow;
 use stores::lengths::BLOCK;
-use stores::lengths::ROW;
 ghost use mathlib.Core.Path.{_≡_};
 ghost use Prim.Native.Nat.{_+_, _≤_};
 ghost use lib.Dec.{T};
 ghost use lib.ListN.{length};
 ghost use Rattle.algebra.specs.Polynomials as Polynomials;
-ghost use Rattle.rules.specs.Limits.{small, mostSpan, blockLength, rowLength};
-ghost use Rattle.rules.specs.Rows.{coefficientsOf, mirrorRow};
+ghost use Rattle.rules.specs.Limits.{small, mostSpan, blockLength, entriesLength};
 ghost use Rattle.lists.specs.Tests.{every};
-ghost use Rattle.rules.specs.Stores.{rowOf};
-ghost use Rattle.working_rows.specs.Mirroring.{Exchanged, Turned};
+ghost use Rattle.working_rows.specs.Mirroring.{Exchanged, Turned, mirroredOf};
+ghost use Rattle.working_rows.specs.Working.{numbersHeld, Full};
 
-// -n for n in every polynomial of a row: odd powers change the sign. A polynomial has an even number of coefficients, so that these are
-// the numbers at the odd places of the row.
-fn alternate_signs(row: &mut [i64])
-    requires { ⌜ (length (now row) ≡ rowLength) × T (every small (now row)) ⌝ }
-    ensures { λ _. ⌜ now (row .exit) ≡ Polynomials.mirror (now (row .entry)) ⌝ }
+// -n for n in every polynomial: odd powers change the sign. A polynomial has an even number of coefficients, so that
+// these are the numbers at the odd places.
+fn alternate_signs(numbers: &mut [i64])
+    requires { ⌜ T (every small (now numbers)) ⌝ }
+    ensures { λ _. ⌜ now (numbers .exit) ≡ Polynomials.mirror (now (numbers .entry)) ⌝ }
 {
     let mut i = 1;
-    while i < ROW {
-        row[i] = integers::negated(row[i]);
+    while i < numbers.len() {
+        numbers[i] = integers::negated(numbers[i]);
         i += 2;
     }
 }
 
 // The blocks from two places on change places.
-fn exchange(row: &mut [i64], a: usize, b: usize)
-    requires { ⌜ (a + blockLength ≤ b) × (b + blockLength ≤ length (now row)) ⌝ }
-    ensures { λ _. ⌜ Exchanged a b blockLength (now (row .entry)) (now (row .exit)) ⌝ }
+fn exchange(entries: &mut [i64], a: usize, b: usize)
+    requires { ⌜ (a + blockLength ≤ b) × (b + blockLength ≤ length (now entries)) ⌝ }
+    ensures { λ _. ⌜ Exchanged a b blockLength (now (entries .entry)) (now (entries .exit)) ⌝ }
 {
     let mut k = 0;
     while k < BLOCK {
-        let kept = row[a + k];
-        row[a + k] = row[b + k];
-        row[b + k] = kept;
+        let kept = entries[a + k];
+        entries[a + k] = entries[b + k];
+        entries[b + k] = kept;
         k += 1;
     }
 }
 
 // The blocks in use change places, first with last.
-fn turn(row: &mut [i64], span: usize)
-    requires { ⌜ (span ≤ mostSpan) × (length (now row) ≡ rowLength) ⌝ }
-    ensures { λ _. ⌜ Turned span (now (row .entry)) (now (row .exit)) ⌝ }
+fn turn(entries: &mut [i64], span: usize)
+    requires { ⌜ (span ≤ mostSpan) × (length (now entries) ≡ entriesLength) ⌝ }
+    ensures { λ _. ⌜ Turned span (now (entries .entry)) (now (entries .exit)) ⌝ }
 {
     let mut b = 0;
     while 2 * b < span {
-        exchange(row, b * BLOCK, (span - b) * BLOCK);
+        exchange(entries, b * BLOCK, (span - b) * BLOCK);
         b += 1;
     }
 }
 
-// A row with block -s for s and -n for n, where it stands (SCOPE 2.91).
-pub fn mirror(row: &mut [i64], span: usize)
-    requires { ⌜ (span ≤ mostSpan) × (length (now row) ≡ rowLength) × T (every small (now row)) ⌝ }
-    ensures { λ _. ⌜ now (row .exit) ≡ coefficientsOf (mirrorRow span (rowOf (now (row .entry)))) ⌝ }
+// A row with block -s for s and -n for n (SCOPE 2.91).
+pub fn mirrored(row: WorkingRow, span: usize) -> WorkingRow
+    requires { ⌜ (span ≤ mostSpan) × Full row × T (every small (numbersHeld row)) ⌝ }
+    ensures { λ r. ⌜ r ≡ mirroredOf span row ⌝ }
 {
-    alternate_signs(row);
-    turn(row, span);
-}
-
-// The same, as an array of its own.
-pub fn mirrored(row: [i64; ROW], span: usize) -> [i64; ROW]
-    requires { ⌜ (span ≤ mostSpan) × T (every small row) ⌝ }
-    ensures { λ r. ⌜ r ≡ coefficientsOf (mirrorRow span (rowOf row)) ⌝ }
-{
-    let mut result = row;
-    mirror(&mut result[..], span);
-    result
+    let mut entries = row.entries;
+    let mut right = row.right;
+    alternate_signs(&mut entries);
+    alternate_signs(&mut right);
+    turn(&mut entries, span);
+    crate::stored::working(entries, right)
 }

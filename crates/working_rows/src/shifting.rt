@@ -4,8 +4,6 @@ use crate::limits::Worked;
 use polynomials::lengths::COEFFICIENTS;
 use stores::lengths::BLOCK;
 use stores::lengths::COLUMNS;
-use stores::lengths::ENTRIES;
-use stores::lengths::ROW;
 ghost use mathlib.Core.Path.{_≡_};
 ghost use Prim.Native.Nat.{_+_, _*_, _≤_};
 ghost use lib.Dec.{T};
@@ -13,14 +11,14 @@ ghost use lib.IntN.{pos};
 ghost use lib.ListN.{length, take, drop, replicate};
 ghost use lib.Seq.{paste};
 ghost use Rattle.algebra.specs.Polynomials.{shift};
-ghost use Rattle.rules.specs.Limits.{rowLength, blockLength, mostSpan, small, coefficientCount};
-ghost use Rattle.rules.specs.Rows.{coefficientsOf, shiftUp};
+ghost use Rattle.rules.specs.Limits.{entriesLength, blockLength, mostSpan, small, coefficientCount};
+ghost use Rattle.rules.specs.Rows.{shiftUp};
 ghost use Rattle.rules.specs.Rows as Rows;
 ghost use Rattle.lists.specs.Tests.{every};
 ghost use Rattle.rules.specs.Stores.{rowOf};
 ghost use Rattle.rules.specs.Elimination.{limitCoefficients};
 ghost use Rattle.polynomials.specs.Shift.{followsRule};
-ghost use Rattle.working_rows.specs.Worked.{refusalOf, numbersOf, workedRow};
+ghost use Rattle.working_rows.specs.Worked.{refusalOf, workedRow};
 ghost use Rattle.working_rows.specs.Shifting.{overFront};
 ghost use Rattle.working_rows.specs.Working.{leftPart, numbersHeld, Full};
 
@@ -41,8 +39,8 @@ fn put_shifted(place: &mut [i64], table: &[[i64; COEFFICIENTS]; COEFFICIENTS], p
     }
 }
 
-// The coefficients of p(n + 1) from one place of a row on, those of p from another: are all of them within ±C? Nothing is worked out for a
-// zero polynomial.
+// The polynomial from the place `below` on is put with n + 1 for n from another place on: are all of its coefficients
+// within ±C? Nothing is worked out for a zero polynomial.
 fn put_moved(
     place: &mut [i64],
     at: usize,
@@ -67,17 +65,20 @@ fn put_moved(
     stores::checks::all_small(&moved[..])
 }
 
-// So many blocks of a row are overwritten with the blocks one further down, with n + 1 for n, the first one first, so that each is read
-// before it is overwritten: are all coefficients within ±C?
+// So many blocks of entries are overwritten with the blocks one further down, with n + 1 for n, the first one first, so
+// that each is read before it is overwritten: are all coefficients within ±C?
 fn move_blocks(
-    place: &mut [i64],
+    entries: &mut [i64],
     table: &[[i64; COEFFICIENTS]; COEFFICIENTS],
     blocks: usize,
 ) -> bool
-    requires { ⌜ T (followsRule (now table)) × (length (now place) ≡ rowLength) × T (every small (now place)) × (blocks ≤ mostSpan) ⌝ }
-    ensures { λ _. ⌜ now (place .exit)
-        ≡ overFront (leftPart (shiftUp (rowOf (now (place .entry))))) (now (place .entry)) (blocks * blockLength) ⌝ }
-    ensures { λ r. ⌜ r ≡ every small (take (blocks * blockLength) (leftPart (shiftUp (rowOf (now (place .entry)))))) ⌝ }
+    requires { ⌜
+        T (followsRule (now table)) × (length (now entries) ≡ entriesLength) × T (every small (now entries))
+        × (blocks ≤ mostSpan) ⌝ }
+    ensures { λ _. ⌜ now (entries .exit)
+        ≡ overFront (leftPart (shiftUp (rowOf (now (entries .entry))))) (now (entries .entry)) (blocks * blockLength) ⌝ }
+    ensures { λ r. ⌜ r
+        ≡ every small (take (blocks * blockLength) (leftPart (shiftUp (rowOf (now (entries .entry)))))) ⌝ }
 {
     let count = blocks * COLUMNS;
     let mut within = true;
@@ -85,7 +86,7 @@ fn move_blocks(
     while e < count {
         let at = e * COEFFICIENTS;
         let below = at + BLOCK;
-        if !put_moved(place, at, table, below) {
+        if !put_moved(entries, at, table, below) {
             within = false;
         }
         e += 1;
@@ -93,50 +94,25 @@ fn move_blocks(
     within
 }
 
-// The shift of a row over the row itself, block by block as far as its width goes, and its right side: are all coefficients within ±C? The
-// last block in use becomes zero, and past it there are zeros already (SCOPE 2.61, 2.63).
-fn write_shift(place: &mut [i64], width: usize) -> bool
-    requires { ⌜
-        (length (now place) ≡ rowLength) × T (every small (now place)) × (width ≡ Rows.width (rowOf (now place))) ⌝ }
-    ensures { λ _. ⌜ now (place .exit) ≡ coefficientsOf (shiftUp (rowOf (now (place .entry)))) ⌝ }
-    ensures { λ r. ⌜ r ≡ every small (coefficientsOf (shiftUp (rowOf (now (place .entry))))) ⌝ }
-{
-    let table = polynomials::shift::pascal();
-    let last = if 0 < width { width - 1 } else { 0 };
-    let left_within = move_blocks(place, &table, last);
-    stores::rows::clear(place, last * BLOCK, BLOCK);
-    let right_within = put_moved(place, ENTRIES, &table, ENTRIES);
-    left_within && right_within
-}
-
-// The same with the limit: a coefficient past ±C is refused with 8, and leaves zeros in the place of the row.
-pub fn shift_into(place: &mut [i64], width: usize) -> u8
-    requires { ⌜
-        (length (now place) ≡ rowLength) × T (every small (now place)) × (width ≡ Rows.width (rowOf (now place))) ⌝ }
-    ensures { λ r. ⌜ r ≡ refusalOf (limitCoefficients (shiftUp (rowOf (now (place .entry))))) ⌝ }
-    ensures { λ _. ⌜ now (place .exit) ≡ numbersOf (limitCoefficients (shiftUp (rowOf (now (place .entry))))) ⌝ }
-{
-    if write_shift(place, width) {
-        return 0;
-    }
-    stores::rows::clear(place, 0, ROW);
-    8
-}
-
-// The same as a row of its own, or the refusal and zeros.
+// A row shifted up by one block with n + 1 for n (SCOPE 2.61, 2.63), or 8 where a coefficient is past ±C. Blocks move up
+// as far as the width goes. The last block in use becomes zero, so that the width is one less; past it there are zeros.
 pub fn shifted(row: WorkingRow) -> Worked
     requires { ⌜ Full row × T (every small (numbersHeld row)) × (row .width ≡ Rows.width (rowOf (row .entries))) ⌝ }
     ensures { λ r. ⌜ r .refusal ≡ refusalOf (limitCoefficients (shiftUp (rowOf (numbersHeld row)))) ⌝ }
     ensures { λ r. ⌜ r .row ≡ workedRow (limitCoefficients (shiftUp (rowOf (numbersHeld row)))) ⌝ }
 {
-    let mut numbers = [0i64; ROW];
-    crate::stored::save(&mut numbers, 0, row);
-    let refusal = shift_into(&mut numbers, row.width);
-    if refusal != 0 {
-        return crate::limits::broken(refusal);
-    }
-    Worked {
-        refusal: 0,
-        row: crate::stored::load(&numbers[..], 0),
-    }
+    let table = polynomials::shift::pascal();
+    let width = row.width;
+    let last = if 0 < width { width - 1 } else { 0 };
+    let mut entries = row.entries;
+    let mut right = row.right;
+    let left_within = move_blocks(&mut entries, &table, last);
+    stores::rows::clear(&mut entries, last * BLOCK, BLOCK);
+    let right_within = put_moved(&mut right, 0, &table, 0);
+    let row = WorkingRow {
+        entries,
+        right,
+        width: last,
+    };
+    crate::limits::limited(row, left_within && right_within)
 }

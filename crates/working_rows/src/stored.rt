@@ -7,8 +7,10 @@ ghost use mathlib.Core.Path.{_≡_};
 ghost use Prim.Native.Nat.{_+_, _≤_};
 ghost use lib.ListN.{length, take, drop};
 ghost use lib.Seq.{paste};
-ghost use Rattle.rules.specs.Limits.{coefficientCount, entriesLength, rowLength};
-ghost use Rattle.working_rows.specs.Working.{workingOf, numbersHeld, Full};
+ghost use Rattle.rules.specs.Limits.{rowLength};
+ghost use Rattle.rules.specs.Rows as Rows;
+ghost use Rattle.rules.specs.Stores.{rowOf};
+ghost use Rattle.working_rows.specs.Working.{workingOf, numbersHeld, Full, loaded};
 
 // The row of these entries and this right side, with its width.
 pub fn working(entries: [i64; ENTRIES], right: [i64; COEFFICIENTS]) -> WorkingRow
@@ -22,11 +24,11 @@ pub fn working(entries: [i64; ENTRIES], right: [i64; COEFFICIENTS]) -> WorkingRo
     }
 }
 
-// The row that a store holds from a place on.
-pub fn load(store: &[i64], at: usize) -> WorkingRow
-    requires { ⌜ at + rowLength ≤ length (now store) ⌝ }
-    ensures { λ r. ⌜ r ≡ workingOf (take entriesLength (drop at (now (store .entry))))
-        (take coefficientCount (drop (at + entriesLength) (now (store .entry)))) ⌝ }
+// The row that a store holds from a place on, whose width is known.
+pub fn load(store: &[i64], at: usize, width: usize) -> WorkingRow
+    requires { ⌜ (at + rowLength ≤ length (now store))
+        × (width ≡ Rows.width (rowOf (take rowLength (drop at (now store))))) ⌝ }
+    ensures { λ r. ⌜ r ≡ loaded (now (store .entry)) at ⌝ }
 {
     let middle = at + ENTRIES;
     let end = at + ROW;
@@ -34,7 +36,11 @@ pub fn load(store: &[i64], at: usize) -> WorkingRow
     stores::rows::save(&mut entries, 0, &store[at..middle]);
     let mut right = [0i64; COEFFICIENTS];
     stores::rows::save(&mut right, 0, &store[middle..end]);
-    working(entries, right)
+    WorkingRow {
+        entries,
+        right,
+        width,
+    }
 }
 
 // The store with the row's numbers from a place on; all others stay.
@@ -42,8 +48,6 @@ pub fn save(store: &mut [i64], at: usize, row: WorkingRow)
     requires { ⌜ (at + rowLength ≤ length (now store)) × Full row ⌝ }
     ensures { λ _. ⌜ now (store .exit) ≡ paste (now (store .entry)) at (numbersHeld row) rowLength ⌝ }
 {
-    let entries = row.entries;
-    let right = row.right;
-    stores::rows::save(store, at, &entries[..]);
-    stores::rows::save(store, at + ENTRIES, &right[..]);
+    stores::rows::save(store, at, &row.entries);
+    stores::rows::save(store, at + ENTRIES, &row.right);
 }

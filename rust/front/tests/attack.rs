@@ -20,9 +20,6 @@ use wurgalm::System;
 
 /// Cases where no number is given.
 const FEW: usize = 3_000;
-/// Subcommands that are left out until they are mended: `series` takes minutes on some sheets, `type` overflows on some
-/// texts.
-const AWAITED: &str = "series,type";
 /// How long a case may take.
 const TIME: Duration = Duration::from_secs(10);
 /// Kilobytes of memory that all cases together may need.
@@ -366,7 +363,7 @@ fn nothing_breaks() {
     let one: Option<usize> = number("WURGALM_ATTACK");
     let count = number("WURGALM_ATTACKS").unwrap_or(FEW);
     let (first, last) = one.map_or((0, count), |one| (one, one + 1));
-    let left_out = &env::var("WURGALM_ATTACK_LEFT_OUT").unwrap_or(AWAITED.into())[..];
+    let left_out = &env::var("WURGALM_ATTACK_LEFT_OUT").unwrap_or_default()[..];
     let threads = thread::available_parallelism().map_or(1, |count| count.get());
     let folder = Path::new(env!("CARGO_TARGET_TMPDIR")).join(format!("attack-{}", std::process::id()));
     let told = Mutex::new((Vec::new(), std::collections::BTreeMap::<String, usize>::new()));

@@ -14,21 +14,21 @@ use mir.Syntax.{w64}
 use mir.Val.{toZ, ofZ}
 use mir.Facts.{toZ-ofZ}
 use Rattle.algebra.specs.Gcd.{divideBy}
+use Rattle.algebra.specs.Polynomials.{isZero}
 use Rattle.polynomials.specs.Content.{Below}
 use Rattle.products.specs.Product.{below-part}
 use Rattle.rules.specs.Limits.{coefficientCount}
-use Rattle.stores.specs.Flat.{partCount}
-use Rattle.combinations.specs.Primitive.{dividedTo, divided-rest, divided-next, divided-whole}
+use Rattle.combinations.specs.Primitive.{dividedTo, divided-rest, divided-next, divided-front}
 use borrow.Author.Needs.{needs}
 use Rattle.combinations.proofs.divide_parts.Statement.{statement}
 use Rattle.combinations.proofs.divide_parts.Tie as tie
 
 abbrev Inv-loop : tie.InvT-loop
-Inv-loop numbers₀ d e₀ numbers e =
-    (e ≤ partCount) × (length numbers ≡ length numbers₀) × (numbers ≡ dividedTo (natAbs (toZ w64 d)) numbers₀ (e * coefficientCount))
+Inv-loop numbers₀ count d e₀ numbers e =
+    (e ≤ count) × (length numbers ≡ length numbers₀) × (numbers ≡ dividedTo (natAbs (toZ w64 d)) numbers₀ (e * coefficientCount))
 
 abbrev μ-loop : tie.MeasureT-loop
-μ-loop numbers₀ d e₀ numbers e = partCount - e
+μ-loop numbers₀ count d e₀ numbers e = count - e
 
 -- polynomial e
 module _ (c : tie.In-loop Inv-loop μ-loop) where
@@ -51,7 +51,7 @@ module _ (c : tie.In-loop Inv-loop μ-loop) where
   width = k + coefficientCount - k
 
   room : k + coefficientCount ≤ length l
-  room = omega (arith, start .pre .0, c .loop-test .taken)
+  room = omega (arith, start .pre .0 .1, c .loop-test .taken)
 
   divisor : toZ w64 (ofZ w64 (start .args .d)) ≡ start .args .d
   divisor = toZ-ofZ (start .fits .d)
@@ -89,8 +89,8 @@ divide-part-requires c κs =
     let w = c .before in
     let s = start w in (
       rw (part-is w, length-take, length-drop) (omega (arith, room w)),
-      subst (Below (2 ^ 63)) (sym (part-is w)) (below-part (2 ^ 63) (k w) (width w) (l w) (s .pre .1)),
-      subst (λ z. T (ltZ (pos 0) z)) (sym (divisor w)) (s .pre .2),
+      subst (Below (2 ^ 63)) (sym (part-is w)) (below-part (2 ^ 63) (k w) (width w) (l w) (s .pre .1 .0)),
+      subst (λ z. T (ltZ (pos 0) z)) (sym (divisor w)) (s .pre .1 .1),
     )
 
 add-e : tie.Need-add-e Inv-loop μ-loop
@@ -118,8 +118,9 @@ returns : tie.Need-returns Inv-loop μ-loop
 returns c =
     let loop = c .before .loop in
     let s = c .before .before in
-    loop .inv .2 ∙ divided-whole (natAbs (toZ w64 (ofZ w64 (s .args .d)))) (now (s .args .numbers)) (loop .e * coefficientCount)
-    (omega (arith, s .pre .0, c .loop-test .left))
+    let all : loop .e ≡ s .args .count = omega (arith, loop .inv .0, c .loop-test .left) in
+    loop .inv .2 ∙ divided-front (natAbs (toZ w64 (ofZ w64 (s .args .d)))) (now (s .args .numbers)) (loop .e * coefficientCount)
+    (subst (λ n. T (isZero (drop (n * coefficientCount) (now (s .args .numbers))))) (sym all) (s .pre .0 .2))
     ∙ ap (λ z. divideBy (natAbs z) (now (s .args .numbers))) (toZ-ofZ (s .fits .d))
 
 pub divide-parts-spec : {M : Type 1} → statement M

@@ -1,38 +1,48 @@
--- `common_roots::divided_each` meets its contract. The invariant: the common roots that are left divide, from the entries as they are, what
--- all of them divide from the first, and no integer occurs more often in the pivot than at first. The measure is how many roots are left.
+-- `common_roots::divided_each` meets its contract. The invariant: the roots that are left divide, from the entries as they are, what all of
+-- them divide from the first; the counts are those of the pivot as it is, and no integer occurs more often in the target than at first. The
+-- measure is how many roots are left.
 -- Assumes nothing.
-use mathlib.Core.Path.{_≡_, refl, sym, _∙_, ap, subst}
+use mathlib.Core.Path.{_≡_, sym, _∙_, ap, ap₂, subst}
+use mathlib.Core.Bool.{not}
 use mathlib.Core.List.{List, _∷_}
-use Prim.Native.Nat.{ℕ, _+_, _-_, _≤_, _<_}
-use native.Mathlib.Nat.{le-refl}
+use Prim.Native.Nat.{ℕ, min, _+_, _-_, _≤_, _<_}
+use native.Mathlib.Nat.{le-refl, le-trans, le-of-eq}
 use native.Mathlib.Omega.{arith}
 use borrow.Author.Needs.{needs, sfits-of}
+use lib.Dec.{T}
 use lib.IntN.{ℤ, pos, natAbs}
-use lib.ListN.{length, getD, take, drop, drop-of-length-le}
+use lib.ListN.{length, getD, take, drop, set, drop-of-length-le}
 use mir.Syntax.{w64}
 use mir.Val.{SFits}
 use mir.Facts.{toZ-ofZ}
-use Rattle.algebra.specs.Multiplicity.{divisions, multiplicity}
+use Rattle.algebra.specs.Multiplicity.{multiplicity}
+use Rattle.algebra.specs.Polynomials.{isZero}
+use Rattle.algebra.specs.Roots.{roots}
 use Rattle.lists.specs.Taken.{drop-next}
 use Rattle.polynomials.specs.Content.{small-at}
 use Rattle.rules.specs.Limits.{bound, coefficientCount}
-use Rattle.rules.specs.CommonRoots.{Entries, commonRoots, divideAt, divideEach}
-use Rattle.roots.specs.RootSearch.{listed, held-of, listed-getD}
+use Rattle.rules.specs.CommonRoots.{Entries, divideAt, divideEach}
+use Rattle.rules.specs.Elimination.{rootsWith}
+use Rattle.roots.specs.RootSearch.{listed, held-of, listed-getD, roots-few, roots-ascend}
+use Rattle.roots.specs.Ascending.{Ascending}
+use Rattle.multiplicities.specs.Counts.{listedWith, timesIn, counts, rootsAlone, found-alone, times-arrays, roots-within}
 use Rattle.multiplicities.specs.Divisions.{multiplicity-most}
+use Rattle.common_roots.specs.Amended.{reduced-each}
 use Rattle.common_roots.specs.Divisions.{Fits, entriesOf}
-use Rattle.common_roots.specs.DividedTimes.{Fewer, divideAt-fewer, divideAt-bounded}
-use Rattle.common_roots.specs.Amended.{rootsAlone, roots-alone, times-at, common-few, common-within}
+use Rattle.common_roots.specs.DividedTimes.{madeAt, Lessened, divideAt-lessened, divideAt-fewer, divideAt-least}
+use Rattle.common_roots.specs.DividedTimes.{counts-at, counts-less}
 use Rattle.common_roots.proofs.divided_each.Statement.{statement}
 use Rattle.common_roots.proofs.divided_each.Tie as tie
 
 abbrev Inv-loop : tie.InvT-loop
-Inv-loop n values times e₀ left₀ e left =
-    Fits e × Fewer (e₀ .pivot) (e .pivot) × (left ≤ n)
+Inv-loop n values others times₀ e₀ left₀ times e left =
+    Fits e × T (not (isZero (e .pivot))) × ((x : ℤ) → multiplicity (e .target) x ≤ multiplicity (e₀ .target) x)
+    × (times ≡ counts (e .pivot) (take n values)) × (left ≤ n)
     × (divideEach coefficientCount (drop (n - left) (take n values)) (entriesOf e)
     ≡ divideEach coefficientCount (take n values) (entriesOf e₀))
 
 abbrev μ-loop : tie.MeasureT-loop
-μ-loop n values times e₀ left₀ e left = left
+μ-loop n values others times₀ e₀ left₀ times e left = left
 
 -- What is handed in.
 module _ (c : tie.Start Inv-loop μ-loop) where
@@ -42,28 +52,46 @@ module _ (c : tie.Start Inv-loop μ-loop) where
   abbrev a : List ℤ
   a = entries .pivot
 
+  abbrev b : List ℤ
+  b = entries .target
+
   abbrev n : ℕ
-  n = c .args .common .count
+  n = c .args .found .count
 
   abbrev rs : List ℤ
-  rs = take n (c .args .common .values)
+  rs = take n (c .args .found .values)
 
-  alone : rootsAlone (c .args .common) ≡ listed (commonRoots entries)
-  alone = roots-alone a (commonRoots entries) (c .pre .2)
+  found-is : c .args .found ≡ listedWith (timesIn a (roots a))
+  unfolding rootsWith
+  found-is = c .pre .2
 
-  found-is : rs ≡ commonRoots entries
-  found-is = held-of (commonRoots entries) alone
+  alone : rootsAlone (c .args .found) ≡ listed (roots a)
+  alone = found-alone a (c .pre .2)
 
-  counted : n ≡ length (commonRoots entries)
+  roots-are : rs ≡ roots a
+  roots-are = held-of (roots a) alone
+
+  counted : n ≡ length (roots a)
   counted = ap (λ f. f .count) alone
 
+  size : length rs ≡ n
+  size = ap length roots-are ∙ sym counted
+
   few : n < 16
-  few = omega (arith, counted, common-few a (entries .target) (c .pre .0 .0 .0))
+  few = omega (arith, counted, roots-few a (le-of-eq (c .pre .0 .0 .0)))
+
+  times-are : c .args .found .times ≡ counts a rs
+  times-are = ap (λ w. w .times) (found-is ∙ times-arrays a (roots a)) ∙ ap (counts a) (sym roots-are)
+
+  others-at : (i : ℕ) → i < n → getD (c .args .other .times) i 0 ≡ multiplicity b (getD rs i (pos 0))
+  others-at i h =
+      ap (λ w. getD (w .times) i 0) (c .pre .3 ∙ times-arrays b (roots a)) ∙ counts-at b (roots a) i (omega (arith, counted))
+      ∙ ap (λ l. multiplicity b (getD l i (pos 0))) (sym roots-are)
 
 -- The next root.
 module _ (c : tie.In-loop Inv-loop μ-loop) where
   abbrev start : tie.Start Inv-loop μ-loop
-  start = c .before .before .before .before
+  start = c .before .before .before .before .before
 
   abbrev left : ℕ
   left = c .before .loop .left
@@ -76,65 +104,99 @@ module _ (c : tie.In-loop Inv-loop μ-loop) where
   i = n start - left
 
   inside : i < n start
-  inside = omega (arith, c .loop-test .taken, c .before .loop .inv .2)
+  inside = omega (arith, c .loop-test .taken, c .before .loop .inv .4)
 
   abbrev r : ℤ
-  r = getD (start .args .common .values) i (pos 0)
+  r = getD (start .args .found .values) i (pos 0)
 
-  abbrev common : List ℤ
-  common = commonRoots (entries start)
+  among : i < length (rs start)
+  among = omega (arith, inside, size start)
 
-  root-is : r ≡ getD common i (pos 0)
-  root-is = listed-getD common (alone start) i (omega (arith, inside, counted start))
+  root-is : r ≡ getD (rs start) i (pos 0)
+  root-is =
+      listed-getD (roots (a start)) (alone start) i (omega (arith, inside, counted start))
+      ∙ ap (λ l. getD l i (pos 0)) (sym (roots-are start))
 
   root-within : natAbs r ≤ bound
-  root-within = rw root-is (small-at common (common-within (a start) (entries start .target) (start .pre .0 .0 .1)) i)
+  root-within =
+      rw (root-is, roots-are start) (small-at (roots (a start)) (roots-within (a start) (start .pre .0 .0 .1)) i)
 
   abbrev others : List ℤ
   others = drop (n start - (left - 1)) (rs start)
 
   after : drop i (rs start) ≡ r ∷ others
   after =
-      let next : i + 1 ≡ n start - (left - 1) = omega (arith, c .loop-test .taken, c .before .loop .inv .2) in
-      let here = ap (λ l. getD l i (pos 0)) (found-is start) ∙ sym root-is in
-      drop-next (rs start) i (pos 0) (omega (arith, inside, ap length (found-is start), counted start))
-      ∙ ap (λ x. x ∷ drop (i + 1) (rs start)) here ∙ ap (λ k. r ∷ drop k (rs start)) next
+      let next : i + 1 ≡ n start - (left - 1) = omega (arith, c .loop-test .taken, c .before .loop .inv .4) in
+      drop-next (rs start) i (pos 0) among
+      ∙ ap₂ (λ x k. x ∷ drop k (rs start)) (sym root-is) next
 
-  -- It divides no more often than it occurs.
-  module _ (times : ℕ) (given : times ≡ getD (start .args .common .times) i 0) where
-    times-is : times ≡ multiplicity (a start) r
-    times-is =
-        given ∙ times-at (a start) common (start .pre .2) i (omega (arith, inside, counted start))
-        ∙ ap (multiplicity (a start)) (sym root-is)
+  -- How often it occurs in both.
+  abbrev here : ℕ
+  here = getD (c .before .loop .times) i 0
 
-    enough : divisions coefficientCount (e .pivot) r ≤ times
-    unfolding multiplicity
-    enough =
-        let long : length (e .pivot) ≡ coefficientCount = c .before .loop .inv .0 .0 .0 in
-        subst (λ k. divisions k (e .pivot) r ≤ times) long (subst (λ k. multiplicity (e .pivot) r ≤ k) (sym times-is)
-        (c .before .loop .inv .1 .fewer r))
+  abbrev there : ℕ
+  there = getD (start .args .other .times) i 0
 
-    divided : divideAt times r e ≡ divideAt coefficientCount r e
-    divided =
-        divideAt-bounded coefficientCount times r e
-        (omega (arith, times-is, multiplicity-most (a start) r, start .pre .0 .0 .0)) enough
+  here-is : here ≡ multiplicity (e .pivot) r
+  here-is =
+      ap (λ l. getD l i 0) (c .before .loop .inv .3) ∙ counts-at (e .pivot) (rs start) i among
+      ∙ ap (multiplicity (e .pivot)) (sym root-is)
 
-    taken : divideEach coefficientCount others (divideAt times r e) ≡ divideEach coefficientCount (rs start) (entries start)
-    unfolding divideEach
-    taken =
-        ap (divideEach coefficientCount others) divided ∙ ap (λ l. divideEach coefficientCount l e) (sym after) ∙ c .before .loop .inv .3
+  there-is : there ≡ multiplicity (b start) r
+  there-is = others-at start i inside ∙ ap (multiplicity (b start)) (sym root-is)
+
+  -- It divides no more often than it occurs in both.
+  divided : divideAt (min here there) r e ≡ divideAt coefficientCount r e
+  divided =
+      divideAt-least here there r e (c .before .loop .inv .0 .0 .0) (c .before .loop .inv .0 .1 .0) (sym here-is)
+      (le-trans (c .before .loop .inv .2 r) (le-of-eq (sym there-is)))
+      (omega (arith, there-is, multiplicity-most (b start) r, start .pre .0 .1 .0))
+
+  taken : divideEach coefficientCount others (divideAt (min here there) r e) ≡ divideEach coefficientCount (rs start) (entries start)
+  unfolding divideEach
+  taken =
+      ap (divideEach coefficientCount others) divided ∙ ap (λ l. divideEach coefficientCount l e) (sym after) ∙ c .before .loop .inv .5
 
 fits-r : (c : tie.After-r Inv-loop μ-loop) → SFits w64 (r (c .before))
 fits-r c = sfits-of (c .r .given)
 
+-- What the divisions at it give.
+module _ (c : tie.After-divided-at Inv-loop μ-loop) where
+  abbrev turn : tie.In-loop Inv-loop μ-loop
+  turn = c .before .before .before
+
+  abbrev k : ℕ
+  k = min (here turn) (there turn)
+
+  abbrev next : Entries
+  next = entriesOf (c .divided-at .result .entries)
+
+  next-is : next ≡ divideAt k (r turn) (e turn)
+  next-is =
+      (rw (toZ-ofZ (fits-r (c .before .before))) at (c .divided-at .ensures .0 .1))
+      ∙ ap (λ j. divideAt j (r turn) (e turn)) (c .before .smaller .ensures)
+
+  made-is : c .divided-at .result .made ≡ madeAt k (r turn) (e turn)
+  made-is =
+      (rw (toZ-ofZ (fits-r (c .before .before))) at (c .divided-at .ensures .1))
+      ∙ ap (λ j. madeAt j (r turn) (e turn)) (c .before .smaller .ensures)
+
+  lessened : Lessened (r turn) (c .divided-at .result .made) (e turn .pivot) (next .pivot)
+  lessened =
+      subst (λ m. Lessened (r turn) m (e turn .pivot) (next .pivot)) (sym made-is)
+      (subst (λ d. Lessened (r turn) (madeAt k (r turn) (e turn)) (e turn .pivot) (d .pivot)) (sym next-is)
+      (divideAt-lessened k (r turn) (e turn) (turn .before .loop .inv .1)))
+
 loop-holds : tie.Need-loop-holds Inv-loop μ-loop
 loop-holds c =
-    let s = c .before .before in
+    let s = c .before .before .before in
     let none : n s - n s ≡ 0 = omega arith in (
       s .pre .0,
-      record { nonzero = s .pre .1; fewer = λ x. le-refl (multiplicity (a s) x) },
+      s .pre .1,
+      λ x. le-refl (multiplicity (b s) x),
+      times-are s,
       omega arith,
-      ap (λ k. divideEach coefficientCount (drop k (rs s)) (entries s)) none,
+      ap (λ j. divideEach coefficientCount (drop j (rs s)) (entries s)) none,
     )
 
 sub-i : tie.Need-sub-i Inv-loop μ-loop
@@ -146,14 +208,37 @@ mul-r c = omega (arith, few (start c))
 array-copy-out-r : tie.Need-array-copy-out-r Inv-loop μ-loop
 array-copy-out-r c = omega (arith, few (start c))
 
-mul-divided-at : tie.Need-mul-divided-at Inv-loop μ-loop
-mul-divided-at c = omega (arith, few (start (c .before)))
+mul-smaller : tie.Need-mul-smaller Inv-loop μ-loop
+mul-smaller c = omega (arith, few (start (c .before)))
 
-array-read-divided-at : tie.Need-array-read-divided-at Inv-loop μ-loop
-array-read-divided-at c = omega (arith, few (start (c .before)))
+array-read-smaller : tie.Need-array-read-smaller Inv-loop μ-loop
+array-read-smaller c = omega (arith, few (start (c .before)))
+
+mul-smaller-2 : tie.Need-mul-smaller-2 Inv-loop μ-loop
+mul-smaller-2 c = omega (arith, few (start (c .before)))
+
+array-read-smaller-2 : tie.Need-array-read-smaller-2 Inv-loop μ-loop
+array-read-smaller-2 c = omega (arith, few (start (c .before)))
+
+smaller-requires : tie.Need-smaller-requires Inv-loop μ-loop
+smaller-requires c κs = search needs
 
 divided-at-requires : tie.Need-divided-at-requires Inv-loop μ-loop
-divided-at-requires c κs = (c .before .before .loop .inv .0, rw (toZ-ofZ (fits-r c)) (root-within (c .before)))
+divided-at-requires c κs =
+    let turn = c .before .before in
+    (turn .before .loop .inv .0, rw (toZ-ofZ (fits-r (c .before))) (root-within turn))
+
+mul-times : tie.Need-mul-times Inv-loop μ-loop
+mul-times c = omega (arith, few (start (turn c)))
+
+array-read-times : tie.Need-array-read-times Inv-loop μ-loop
+array-read-times c = omega (arith, few (start (turn c)))
+
+sub-times : tie.Need-sub-times Inv-loop μ-loop
+sub-times c = omega (arith, lessened (c .before) .here, here-is (turn (c .before)))
+
+array-write-times : tie.Need-array-write-times Inv-loop μ-loop
+array-write-times c = omega (arith, few (start (turn (c .before))))
 
 sub-left : tie.Need-sub-left Inv-loop μ-loop
 sub-left c = search needs
@@ -163,24 +248,33 @@ loop-less c = omega arith
 
 loop-again : tie.Need-loop-again Inv-loop μ-loop
 loop-again c =
-    let turn = c .before .before in
-    let inv = turn .before .loop .inv in
-    let divided = rw (toZ-ofZ (fits-r (c .before))) at (c .divided-at .ensures .1) in (
-      c .divided-at .ensures .0,
-      subst (Fewer (a (start turn))) (sym (ap (λ x. x .pivot) divided)) (divideAt-fewer _ (r turn) (e turn) (a (start turn)) (inv .1)),
-      omega (arith, inv .2),
-      ap (divideEach coefficientCount (others turn)) divided ∙ taken turn _ refl,
+    let d = c .before .before in
+    let now = turn d in
+    let inv = now .before .loop .inv in
+    let ascend = subst Ascending (sym (roots-are (start now))) (roots-ascend (a (start now))) in
+    let less = subst (λ x. Lessened x (d .divided-at .result .made) (e now .pivot) (next d .pivot)) (root-is now) (lessened d) in (
+      d .divided-at .ensures .0 .0,
+      lessened d .nonzero,
+      λ x. le-trans (subst (λ y. multiplicity (y .target) x ≤ multiplicity (e now .target) x) (sym (next-is d))
+          (divideAt-fewer (k d) (r now) (e now) x)) (inv .2 x),
+      ap (λ l. set l (i now) (getD l (i now) 0 - d .divided-at .result .made)) (inv .3)
+          ∙ counts-less (e now .pivot) (next d .pivot) (rs (start now)) (i now) (d .divided-at .result .made) ascend (among now) less,
+      omega (arith, inv .4),
+      ap (divideEach coefficientCount (others now)) (next-is d) ∙ taken now,
     )
 
 returns : tie.Need-returns Inv-loop μ-loop
 unfolding divideEach
 returns c =
-    let s = c .before .before .before .before in
+    let s = c .before .before .before .before .before in
     let inv = c .before .loop .inv in
-    let past : length (rs s) ≤ n s - c .before .loop .left = omega (arith, c .loop-test .left, ap length (found-is s), counted s) in (
-      inv .0,
-      ap (λ l. divideEach coefficientCount l (entriesOf (c .before .loop .e))) (sym (drop-of-length-le (rs s) past)) ∙ inv .3
-          ∙ ap (λ l. divideEach coefficientCount l (entries s)) (found-is s),
+    let past : length (rs s) ≤ n s - c .before .loop .left = omega (arith, c .loop-test .left, size s) in (
+      (
+        inv .0,
+        ap (λ l. divideEach coefficientCount l (entriesOf (c .before .loop .e))) (sym (drop-of-length-le (rs s) past)) ∙ inv .5
+            ∙ ap (λ l. divideEach coefficientCount l (entries s)) (roots-are s) ∙ reduced-each (a s) (b s) (s .pre .0 .0 .0),
+      ),
+      inv .3 ∙ ap (counts (c .before .loop .e .pivot)) (roots-are s),
     )
 
 pub divided-each-spec : {M : Type 1} → statement M
@@ -193,9 +287,16 @@ divided-each-spec =
     sub-i
     mul-r
     array-copy-out-r
-    mul-divided-at
-    array-read-divided-at
+    mul-smaller
+    array-read-smaller
+    mul-smaller-2
+    array-read-smaller-2
+    smaller-requires
     divided-at-requires
+    mul-times
+    array-read-times
+    sub-times
+    array-write-times
     sub-left
     loop-less
     loop-again

@@ -14,8 +14,8 @@ abbrev μ-loop : tie.MeasureT-loop
 loop-holds : tie.Need-loop-holds Inv-loop μ-loop
 loop-holds c = search needs
 
-roots-requires : tie.Need-roots-requires Inv-loop μ-loop
-roots-requires c κs = search needs
+roots-with-requires : tie.Need-roots-with-requires Inv-loop μ-loop
+roots-with-requires c κs = search needs
 
 wrapping-add-u64-requires : tie.Need-wrapping-add-u64-requires Inv-loop μ-loop
 wrapping-add-u64-requires c κs = search needs
@@ -39,7 +39,7 @@ found-by-spec =
     Inv-loop
     μ-loop
     loop-holds
-    roots-requires
+    roots-with-requires
     wrapping-add-u64-requires
     sub-left
     loop-less

@@ -1,9 +1,11 @@
 -- `root_values::print_roots` meets its contract. There are at most 15 roots.
 -- Assumes nothing.
 use mathlib.Core.Path.{ap}
+use native.Mathlib.Nat.{le-of-eq}
 use native.Mathlib.Omega.{arith}
 use borrow.Author.Needs.{needs}
 use Rattle.roots.specs.RootSearch.{roots-few}
+use Rattle.multiplicities.specs.Counts.{found-alone}
 use Rattle.root_values.proofs.print_roots.Statement.{statement}
 use Rattle.root_values.proofs.print_roots.Tie as tie
 
@@ -13,19 +15,19 @@ slice-aggregate-print c = search needs
 print-requires : tie.Need-print-requires
 print-requires c κs = search needs
 
-roots-requires : tie.Need-roots-requires
-roots-requires c κs = search needs
+roots-with-requires : tie.Need-roots-with-requires
+roots-with-requires c κs = search needs
 
 print-list-requires : tie.Need-print-list-requires
 print-list-requires c κs =
     let p = c .before .before .before .args .p .now in
-    omega (arith, ap (λ r. r .count) (c .roots .ensures), roots-few p (c .before .before .before .pre .0))
+    omega (arith, ap (λ r. r .count) (found-alone p (c .roots-with .ensures)), roots-few p (le-of-eq (c .before .before .before .pre .0)))
 
-smallest-root-requires : tie.Need-smallest-root-requires
-smallest-root-requires c κs = search needs
+smallest-with-requires : tie.Need-smallest-with-requires
+smallest-with-requires c κs = search needs
 
-largest-root-requires : tie.Need-largest-root-requires
-largest-root-requires c κs = search needs
+largest-with-requires : tie.Need-largest-with-requires
+largest-with-requires c κs = search needs
 
 slice-aggregate-print-2 : tie.Need-slice-aggregate-print-2
 slice-aggregate-print-2 c = search needs
@@ -60,10 +62,10 @@ print-roots-spec =
     (tie.spec
     slice-aggregate-print
     print-requires
-    roots-requires
+    roots-with-requires
     print-list-requires
-    smallest-root-requires
-    largest-root-requires
+    smallest-with-requires
+    largest-with-requires
     slice-aggregate-print-2
     print-requires-2
     print-signed-requires

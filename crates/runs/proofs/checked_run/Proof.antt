@@ -5,9 +5,9 @@ use Prim.Native.Nat.{ℕ}
 use borrow.Author.Needs.{needs}
 use denote.Ref.{now}
 use lib.IntN.{ℤ}
-use Rattle.rules.specs.Stores.{Sizes, equations, rowsOf}
+use Rattle.rules.specs.Stores.{Sizes, equations, span, rowsOf}
 use Rattle.stores.specs.Validity.{sizesOf}
-use Rattle.runs.specs.CallLaws.{few-equations, few-blocks, rows-unused, Checked, checked}
+use Rattle.runs.specs.CallLaws.{few-equations, few-blocks, rows-unused, columns-unused, Checked, checked}
 use Rattle.runs.proofs.checked_run.Statement.{statement}
 use Rattle.runs.proofs.checked_run.Tie as tie
 
@@ -38,7 +38,8 @@ whole-run-requires c κs =
     let ok = stores s in
     let span-is = c .before .before .span .ensures in (
       (few-equations (z s) (ok .sizes), rw span-is (few-blocks (z s) (ok .sizes)), ok .rows-within, ok .listing),
-      rw span-is (rows-unused (z s) (rowsOf (equations (z s)) (rows s)) (ok .valid .rows-right)),
+      rw span-is (columns-unused (z s .m) (span (z s)) (equations (z s)) (rows s)
+          (rows-unused (z s) (rowsOf (equations (z s)) (rows s)) (ok .valid .rows-right))),
     )
 
 same-length : tie.Need-same-length

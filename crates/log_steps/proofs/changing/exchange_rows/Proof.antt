@@ -62,11 +62,19 @@ returns c =
     (step-refused D ready (begun s .unsettled) (exchanging (i s) (j s))
     (exchange-allowed D ready (begun s .unsettled) (i s) (j s) ∙ sym (test .two-rows .ensures) ∙ not-true _ (c .before .if1 .taken)))
 
+width-of-requires : tie.Need-width-of-requires
+width-of-requires c κs = let e = c .before in let s = start e in begun-room (begun s) (i s) (inside e)
+
+width-of-requires-2 : tie.Need-width-of-requires-2
+width-of-requires-2 c κs = let e = c .before .before .before in let s = start e in begun-room (begun s) (j s) (other e)
+
 exchange-requires : tie.Need-exchange-requires
 exchange-requires c κs =
-    let e = c .before in
-    let s = start e in
-    (begun-room (begun s) (i s) (inside e), begun-room (begun s) (j s) (other e))
+    let e = c .before .before .before .before .before in
+    let s = start e in (
+      (begun-room (begun s) (i s) (inside e), begun-room (begun s) (j s) (other e)),
+      (c .before .before .before .width-of .ensures, c .before .width-of2 .ensures),
+    )
 
 answer-requires-2 : tie.Need-answer-requires-2
 answer-requires-2 c κs = search needs
@@ -77,7 +85,7 @@ same-length c = search needs
 returns-2 : tie.Need-returns-2
 returns-2 c =
     let put = c .before .before in
-    let e = put .before .before in
+    let e = put .before .before .before .before .before .before in
     let s = start e in
     λ D relations ready.
     stepped-same (put .exchange .ensures) (c .answer2 .ensures) refl
@@ -91,6 +99,8 @@ exchange-rows-spec =
     two-rows-requires
     answer-requires
     returns
+    width-of-requires
+    width-of-requires-2
     exchange-requires
     answer-requires-2
     same-length

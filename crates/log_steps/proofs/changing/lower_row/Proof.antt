@@ -1,6 +1,6 @@
 -- `log_steps::changing::lower_row` meets its contract.
 -- Assumes nothing.
-use Prim.Native.Nat.{ℕ, _<_}
+use Prim.Native.Nat.{ℕ, _*_, _<_}
 use mathlib.Core.Path.{_≡_, refl, sym, _∙_, ap, ap₂, subst}
 use mathlib.Core.List.{List}
 use native.Mathlib.Omega.{arith}
@@ -10,11 +10,11 @@ use denote.Ref.{now}
 use lib.Dec.{T}
 use lib.IntN.{ℤ}
 use Rattle.lists.specs.Tests.{every}
-use Rattle.rules.specs.Limits.{small}
+use Rattle.rules.specs.Limits.{small, rowLength}
 use Rattle.rules.specs.Stores.{rowOf}
 use Rattle.rules.specs.Elimination.{Limited, limitCoefficients}
 use Rattle.theory.specs.ShiftDown.{shiftDown}
-use Rattle.working_rows.specs.Working.{numbersHeld, Full}
+use Rattle.working_rows.specs.Working.{numbersHeld, Full, full-loaded, numbers-loaded}
 use Rattle.working_rows.specs.Worked.{refusalOf, workedRow, numbers-worked}
 use Rattle.reduction.specs.declared.step.Progress.{Progress}
 use Rattle.reduction.specs.Progress.{answerOf}
@@ -57,10 +57,10 @@ module _ (c : tie.Else1) where
 -- it is shifted
 module _ (c : tie.After-lowered) where
   abbrev passed : tie.Else1
-  passed = c .before .before .before .before .before .before .before
+  passed = c .before .before .before .before .before .before .before .before .before
 
-  abbrev numbers : c .before .before .load .result ≡ numbersAt (rows (start passed)) (i (start passed))
-  numbers = c .before .before .load .ensures
+  numbers : numbersHeld (c .before .before .load .result) ≡ numbersAt (rows (start passed)) (i (start passed))
+  numbers = ap numbersHeld (c .before .before .load .ensures) ∙ numbers-loaded (rows (start passed)) (i (start passed) * rowLength)
 
   refusal-is : c .lowered .result .refusal ≡ refusalOf (new passed)
   refusal-is = c .lowered .ensures .0 ∙ ap (λ l. refusalOf (limitCoefficients (shiftDown (rowOf l)))) numbers
@@ -100,16 +100,26 @@ returns-2 c =
     (lower-allowed span ready (begun s .unsettled) (i s) (inside e) ∙ sym (test .block-zero .ensures)
     ∙ not-true _ (c .before .if2 .taken)))
 
+width-of-requires : tie.Need-width-of-requires
+width-of-requires c κs = let e = c .before .before .before .before in begun-room (begun (start e)) (i (start e)) (inside e)
+
 mul-load : tie.Need-mul-load
-mul-load c = let e = c .before .before .before .before in omega (arith, begun-few (begun (start e)) (i (start e)) (inside e))
+mul-load c = let e = c .before .before .before .before .before .before in omega (arith, begun-few (begun (start e)) (i (start e)) (inside e))
 
 load-requires : tie.Need-load-requires
-load-requires c κs = let e = c .before .before .before .before in begun-room (begun (start e)) (i (start e)) (inside e)
+load-requires c κs =
+    let e = c .before .before .before .before .before .before in
+    (begun-room (begun (start e)) (i (start e)) (inside e), c .before .width-of .ensures)
 
 lowered-requires : tie.Need-lowered-requires
 lowered-requires c κs =
-    let e = c .before .before .before .before .before .before in
-    subst (λ l. T (every small l)) (sym (c .before .load .ensures)) (bounded e)
+    let e = c .before .before .before .before .before .before .before .before in
+    let s = start e in
+    let at = i s * rowLength in
+    let load = c .before .load in (
+      subst Full (sym (load .ensures)) (full-loaded (rows s) at (begun-room (begun s) (i s) (inside e))),
+      subst (λ l. T (every small l)) (sym (ap numbersHeld (load .ensures) ∙ numbers-loaded (rows s) at)) (bounded e),
+    )
 
 put-limited-requires : tie.Need-put-limited-requires
 put-limited-requires c κs =
@@ -130,7 +140,7 @@ returns-3 c =
     let e = passed d in
     let s = start e in
     let span = s .args .span in
-    let last = d .before .before .before .before in
+    let last = d .before .before .before .before .before .before in
     λ relations ready.
     stepped-same (put .0 ∙ ap₂ (saved (rows s) (i s)) (refusal-is d) (ap numbersHeld (row-is d) ∙ numbers-worked (new e)))
     (put .1 ∙ ap (λ n. answerOf n (p s)) (refusal-is d)) refl
@@ -148,6 +158,7 @@ lower-row-spec =
     answer-requires-2
     same-length
     returns-2
+    width-of-requires
     mul-load
     load-requires
     lowered-requires

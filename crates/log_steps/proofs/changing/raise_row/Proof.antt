@@ -50,7 +50,7 @@ module _ (c : tie.Else1) where
 -- it is loaded and shifted
 module _ (c : tie.After-load) where
   abbrev passed : tie.Else1
-  passed = c .before .before .before .before .before
+  passed = c .before .before .before .before .before .before .before
 
   abbrev base : tie.Start
   base = start passed
@@ -105,14 +105,19 @@ returns-2 c =
     (step-refused D ready (begun s .unsettled) (raising (i s))
     (raise-allowed D ready (begun s .unsettled) (i s) (inside e) ∙ sym (test .block-zero .ensures) ∙ not-true _ (c .before .if2 .taken)))
 
+width-of-requires : tie.Need-width-of-requires
+width-of-requires c κs = let e = c .before .before .before .before in begun-room (begun (start e)) (i (start e)) (inside e)
+
 mul-load : tie.Need-mul-load
-mul-load c = let e = c .before .before .before .before in omega (arith, begun-few (begun (start e)) (i (start e)) (inside e))
+mul-load c = let e = c .before .before .before .before .before .before in omega (arith, begun-few (begun (start e)) (i (start e)) (inside e))
 
 load-requires : tie.Need-load-requires
-load-requires c κs = let e = c .before .before .before .before in begun-room (begun (start e)) (i (start e)) (inside e)
+load-requires c κs =
+    let e = c .before .before .before .before .before .before in
+    (begun-room (begun (start e)) (i (start e)) (inside e), c .before .width-of .ensures)
 
-add-t13 : tie.Need-add-t13
-add-t13 c = search needs
+add-t16 : tie.Need-add-t16
+add-t16 c = search needs
 
 shifted-requires : tie.Need-shifted-requires
 shifted-requires c κs = let l = c .before .before .before in (loaded l .full, bounded l, width-of (l .load .result) _ _ (l .load .ensures))
@@ -136,13 +141,13 @@ returns-3 c =
     let l = read d in
     let s = base l in
     let e = passed l in
-    let test = l .before .before .before in
+    let test = l .before .before .before .before .before in
     λ D relations ready.
     stepped-same (put .0 ∙ ap₂ (saved (rows s) (i s)) (refusal-is d) (ap numbersHeld (row-is d) ∙ numbers-worked (new l)))
     (put .1 ∙ ap (λ n. answerOf n (shiftedProgress (p s))) (refusal-is d)) refl
     (raise-stepped D ready (begun s .unsettled) (i s) (inside e)
     (raise-allowed D ready (begun s .unsettled) (i s) (inside e) ∙ sym (test .block-zero .ensures)
-    ∙ not-false _ (l .before .before .if2 .left)))
+    ∙ not-false _ (l .before .before .before .before .if2 .left)))
 
 pub raise-row-spec : {M : Type 1} → statement M
 raise-row-spec =
@@ -154,9 +159,10 @@ raise-row-spec =
     answer-requires-2
     same-length
     returns-2
+    width-of-requires
     mul-load
     load-requires
-    add-t13
+    add-t16
     shifted-requires
     put-limited-requires
     same-length-2

@@ -16,8 +16,9 @@ use Rattle.algebra.specs.Roots.{roots}
 use Rattle.lists.specs.Tests.{every}
 use Rattle.rules.specs.Limits.{rowLength, small}
 use Rattle.rules.specs.Elimination.{Limited, leading, listing}
-use Rattle.roots.specs.declared.RootList.{RootList}
-use Rattle.roots.specs.RootSearch.{listed, held, held-of, roots-few}
+use Rattle.roots.specs.RootSearch.{listed, held-of, roots-few}
+use Rattle.multiplicities.specs.declared.RootsWith.{RootsWith}
+use Rattle.multiplicities.specs.Counts.{rootsAlone, rootsHeld, found-alone}
 use Rattle.sides.specs.Relations.{Relisted}
 use Rattle.working_rows.specs.Worked.{refusalOf, numbersOf}
 use Rattle.reduction.specs.declared.step.Progress.{Progress}
@@ -87,16 +88,16 @@ module _ (c : tie.After-struct-known2) where
   abbrev base : tie.Start
   base = c .before .before .before
 
-  abbrev found : RootList
-  found = c .before .before .roots .result
+  abbrev found : RootsWith
+  found = c .before .before .roots-with .result
 
-  found-is : found ≡ listed (roots (g base))
-  found-is = c .before .before .roots .ensures
+  found-is : rootsAlone found ≡ listed (roots (g base))
+  found-is = found-alone (g base) (c .before .before .roots-with .ensures)
 
   count-is : found .count ≡ length (roots (g base))
   count-is = ap (λ f. f .count) found-is
 
-  held-is : held found ≡ roots (g base)
+  held-is : rootsHeld found ≡ roots (g base)
   held-is = held-of (roots (g base)) found-is
 
 -- the relations, and the new row
@@ -129,8 +130,8 @@ module _ (c : tie.After-list-roots) where
       (divided-storable (g s) h (target s) (numbersAt (rows s) j) (omega (arith, s .pre .1 .0))
       (length-numbersAt (p s .rows) (rows s) (ready s .rows-within) (i s) (inside s)) d)
 
-roots-requires : tie.Need-roots-requires
-roots-requires c κs = (le-of-eq (c .pre .1 .0), c .pre .1 .1)
+roots-with-requires : tie.Need-roots-with-requires
+roots-with-requires c κs = (c .pre .1 .0, c .pre .1 .1)
 
 add-count : tie.Need-add-count
 add-count c = omega (arith, few (base c), count-is c, ready (base c) .listing .few)
@@ -223,7 +224,7 @@ pub combine-allowed-spec : {M : Type 1} → statement M
 combine-allowed-spec =
     tie.close
     (tie.spec
-    roots-requires
+    roots-with-requires
     add-count
     answer-requires
     returns

@@ -8,6 +8,7 @@ use native.Mathlib.Omega.{arith}
 use borrow.Author.Needs.{needs}
 use borrow.Author.Tests.{ltb-true, ltb-false, eqb-true, eqb-false}
 use denote.Ref.{now}
+use Rattle.rules.specs.Limits.{columnCount}
 use Rattle.rules.specs.Stores.{rowsOf, relationsOf}
 use Rattle.rules.specs.Elimination as Elimination
 use Rattle.sides.specs.Lent.{sideOf}
@@ -18,14 +19,14 @@ use Rattle.reduction.proofs.run.steps.Statement.{statement}
 use Rattle.reduction.proofs.run.steps.Tie as tie
 
 abbrev Inv-loop : tie.InvT-loop
-Inv-loop rows₀ relations₀ equations side count m span p₀ refusal₀ left₀ rows relations p refusal left =
+Inv-loop rows₀ relations₀ equations side count span p₀ refusal₀ left₀ rows relations p refusal left =
     Running (sideOf side) equations rows₀ relations₀ rows relations refusal p left
     (Elimination.run (sideOf side) (Elimination.enough (rowsOf equations rows₀))
     (Elimination.start (rowsOf equations rows₀) (relationsOf count relations₀)))
-    × (refusal ≡ 0 → Unused m span (stateOf rows relations p))
+    × (refusal ≡ 0 → Unused columnCount span (stateOf rows relations p))
 
 abbrev μ-loop : tie.MeasureT-loop
-μ-loop rows₀ relations₀ equations side count m span p₀ refusal₀ left₀ rows relations p refusal left = left
+μ-loop rows₀ relations₀ equations side count span p₀ refusal₀ left₀ rows relations p refusal left = left
 
 start-requires : tie.Need-start-requires Inv-loop μ-loop
 start-requires c κs = search needs
@@ -75,7 +76,7 @@ loop-again c =
     let args = head turn .before .before .before .args in
     let fine = eqb-true _ _ (asked .if1 .taken) in (
       run-goes (at .0) (asked .before .loop-test .taken) fine (one-left turn) (step .ensures .0) (step .ensures .1),
-      λ e. unused-after (args .m) (args .span) (at .0 .reached .ready) (sideOf (args .side)) (one-left turn) (step .ensures .0) (step .ensures .1) e (at .1 fine),
+      λ e. unused-after columnCount (args .span) (at .0 .reached .ready) (sideOf (args .side)) (one-left turn) (step .ensures .0) (step .ensures .1) e (at .1 fine),
     )
 
 -- what the loop's end says

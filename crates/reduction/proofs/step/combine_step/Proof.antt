@@ -14,25 +14,27 @@ use lib.ListN.{length, getD, length-append, length-replicate}
 use Rattle.algebra.specs.Polynomials.{isZero}
 use Rattle.algebra.specs.Roots.{roots}
 use Rattle.rules.specs.Limits.{columnCount, rowLength, small}
-use Rattle.rules.specs.Rows.{entry, combine, primitive}
+use Rattle.rules.specs.Rows.{entry, combine, primitive, width}
 use Rattle.lists.specs.Tests.{every}
-use Rattle.rules.specs.Stores.{rowOf, unusedZero}
-use Rattle.rules.specs.Elimination.{Side, Limited, limitDegrees, consistent, Multipliers, multipliersAt, listing, combineStep}
-use Rattle.roots.specs.declared.RootList.{RootList}
-use Rattle.roots.specs.RootSearch.{listed, held, held-of, roots-few}
-use Rattle.combinations.specs.InPlace.{placed}
+use Rattle.rules.specs.Stores.{rowOf}
+use Rattle.rules.specs.Elimination.{Side, Limited, limitDegrees, consistent, Multipliers, multipliersAt, listing, combineStep, rootsWith}
+use Rattle.roots.specs.RootSearch.{listed, held-of, roots-few}
+use Rattle.multiplicities.specs.declared.RootsWith.{RootsWith}
+use Rattle.multiplicities.specs.Counts.{listedWith, rootsAlone, rootsHeld, found-alone}
+use Rattle.combinations.specs.Undivided.{RowsFit}
 use Rattle.working_rows.specs.Found.{Columns-at}
-use Rattle.working_rows.specs.Worked.{refusalOf, numbersOf}
+use Rattle.working_rows.specs.declared.WorkingRow.{WorkingRow}
+use Rattle.working_rows.specs.Working.{numbersHeld, Full, loaded, full-loaded, numbers-loaded}
+use Rattle.working_rows.specs.Worked.{refusalOf, numbersOf, workedRow, numbers-worked}
 use Rattle.reduction.specs.declared.step.Progress.{Progress}
 use Rattle.sides.specs.Lent.{sideOf}
 use Rattle.reduction.specs.Progress.{Ready, stateOf, answerOf, listedProgress}
 use Rattle.sides.specs.Relations.{Relisted}
 use Rattle.reduction.specs.MultiplierSizes.{Sixteen, multipliers-fit, roots-small}
-use Rattle.reduction.specs.NewRows.{Storable, row-room, combined-storable}
+use Rattle.reduction.specs.NewRows.{Storable, saved, row-room, combined-storable, full-worked}
 use Rattle.reduction.specs.StoreExchange.{numbersAt, length-numbersAt, small-numbersAt, length-entry, small-entry}
 use Rattle.reduction.specs.StepLaws.{multipliersOf, multipliersIn, newRow, multipliers-in, combine-refused, combine-reached}
 use Rattle.reduction.specs.StepLaws.{refused-reached, reached-same}
-use Rattle.reduction.specs.Unused.{unused-row}
 use Rattle.reduction.proofs.step.combine_step.Statement.{statement}
 use Rattle.reduction.proofs.step.combine_step.Tie as tie
 
@@ -82,10 +84,6 @@ module _ (c : tie.Start) where
 
   room : (k : ℕ) → k < n → k * rowLength + rowLength ≤ length rows
   room k h = omega (arith, row-room n k rows (ready .rows-within) h, ready .rows-within .long)
-
-  -- the places of a row that are not in use
-  unused : (k : ℕ) → k < n → T (unusedZero (c .args .m) (c .args .span) (rowOf (numbersAt rows k)))
-  unused k h = unused-row (c .args .m) (c .args .span) ready k h (c .pre .1 .2)
 
   -- the two rows and their entries
   abbrev target : List ℤ
@@ -163,7 +161,7 @@ module _ (c : tie.After-put-multipliers-at) where
   abbrev h : List ℤ
   h = c .put-multipliers-at .last .1 .0
 
-  abbrev found : RootList
+  abbrev found : RootsWith
   found = c .put-multipliers-at .result
 
   g-is : g ≡ x start .g
@@ -172,46 +170,71 @@ module _ (c : tie.After-put-multipliers-at) where
   h-is : h ≡ x start .h
   h-is = c .put-multipliers-at .ensures .1 .0 ∙ ap (λ y. y .h) multipliers-are
 
-  found-is : found ≡ listed (roots (x start .g))
-  found-is = c .put-multipliers-at .ensures .1 .1 ∙ ap (λ y. listed (roots (y .g))) multipliers-are
+  found-is : rootsAlone found ≡ listed (roots (x start .g))
+  found-is =
+      found-alone (x start .g) (c .put-multipliers-at .ensures .1 .1 ∙ ap (λ y. listedWith (rootsWith (y .g))) multipliers-are)
 
   count-is : found .count ≡ length (roots (x start .g))
   count-is = ap (λ f. f .count) found-is
 
-  held-is : held found ≡ roots (x start .g)
+  held-is : rootsHeld found ≡ roots (x start .g)
   held-is = held-of (roots (x start .g)) found-is
 
--- the relations, and the new row
-module _ (c : tie.After-combine-rows) where
-  abbrev listing-call : tie.After-list-roots
-  listing-call = c .before .before .before .before .before
-
+-- the relations
+module _ (c : tie.After-list-roots) where
   abbrev multiplied : tie.After-put-multipliers-at
-  multiplied = listing-call .before .before .before .before .before .before .before
+  multiplied = c .before .before .before .before .before .before .before
 
   abbrev origin : tie.Start
   origin = start multiplied
 
   abbrev after : List ℤ
-  after = listing-call .list-roots .last .0
+  after = c .list-roots .last .0
 
   relisted : Relisted (p origin .count) (target origin) (listing (side origin) (roots (x origin .g))) (relations origin) after
   relisted =
       subst₂ (λ t l. Relisted (p origin .count) t (listing (side origin) l) (relations origin) after)
-      (target-is multiplied) (held-is multiplied) (listing-call .list-roots .ensures)
+      (target-is multiplied) (held-is multiplied) (c .list-roots .ensures)
 
-  -- the code's multipliers are those of the definition
-  new-is : consistent (limitDegrees (primitive (combine (g multiplied) (h multiplied) (rowOf (target origin)) (rowOf (pivot origin)))))
-      ≡ new origin
-  new-is =
-      ap₂ (λ a b. consistent (limitDegrees (primitive (combine a b (rowOf (target origin)) (rowOf (pivot origin))))))
+  -- the row that is loaded
+  abbrev row : WorkingRow
+  row = loaded (rows origin) (i origin * rowLength)
+
+  row-held : numbersHeld row ≡ target origin
+  row-held = numbers-loaded (rows origin) (i origin * rowLength)
+
+  row-full : Full row
+  row-full = full-loaded (rows origin) (i origin * rowLength) (room origin (i origin) (inside origin))
+
+  -- what is asked where it is combined
+  row-fits : RowsFit (g multiplied) (h multiplied) row (now (pivot-read multiplied .row-at2 .result)) (origin .args .other)
+  row-fits =
+      let g-fits = subst Sixteen (sym (g-is multiplied)) (fits origin .0) in
+      let h-fits = subst Sixteen (sym (h-is multiplied)) (fits origin .1) in record {
+        g-long = g-fits .0;
+        g-small = g-fits .1;
+        h-long = h-fits .0;
+        h-small = h-fits .1;
+        target-full = row-full;
+        target-small = subst Small (sym row-held) (target-small origin);
+        target-width = refl;
+        pivot-long = pivot-read multiplied .row-at2 .ensures .1;
+        pivot-small = subst Small (sym (pivot-is multiplied)) (pivot-small origin);
+        pivot-width = origin .pre .1 .1 .1 ∙ ap (λ l. width (rowOf l)) (sym (pivot-is multiplied));
+      }
+
+  -- the new row, with the multipliers of the definition
+  abbrev made : WorkingRow → Limited
+  made w =
+      consistent (limitDegrees (primitive (combine (g multiplied) (h multiplied) (rowOf (numbersHeld w))
+      (rowOf (now (pivot-read multiplied .row-at2 .result))))))
+
+  made-is : made row ≡ new origin
+  made-is =
+      ap₂ (λ t q. consistent (limitDegrees (primitive (combine (g multiplied) (h multiplied) (rowOf t) (rowOf q))))) row-held
+      (pivot-is multiplied)
+      ∙ ap₂ (λ a b. consistent (limitDegrees (primitive (combine a b (rowOf (target origin)) (rowOf (pivot origin))))))
       (g-is multiplied) (h-is multiplied)
-
-  refusal-is : c .combine-rows .result ≡ refusalOf (new origin)
-  refusal-is = c .combine-rows .ensures .0 ∙ ap refusalOf new-is
-
-  rows-are : c .combine-rows .last .0 ≡ placed (rows origin) (i origin * rowLength) (refusalOf (new origin)) (numbersOf (new origin))
-  rows-are = c .combine-rows .ensures .1 ∙ ap₂ (λ n x. placed (rows origin) (i origin * rowLength) n (numbersOf x)) refusal-is new-is
 
 mul-c : tie.Need-mul-c
 mul-c c = search needs
@@ -287,33 +310,32 @@ list-roots-requires c κs =
       (subst Small (sym (held-is e)) (roots-small (x b .g) (fits b .0 .1)), row, t .1),
     )
 
-mul-combine-rows : tie.Need-mul-combine-rows
-mul-combine-rows c = search needs
+mul-load : tie.Need-mul-load
+mul-load c = omega (arith, ready (origin (c .before)) .few-settled)
 
-mul-combine-rows-2 : tie.Need-mul-combine-rows-2
-mul-combine-rows-2 c = search needs
+load-requires : tie.Need-load-requires
+load-requires c κs = let b = origin (c .before) in (room b (i b) (inside b), b .pre .1 .1 .0)
 
-slice-aggregate-combine-rows : tie.Need-slice-aggregate-combine-rows
-slice-aggregate-combine-rows c = search needs
+slice-aggregate-combined : tie.Need-slice-aggregate-combined
+slice-aggregate-combined c = search needs
 
-slice-aggregate-combine-rows-2 : tie.Need-slice-aggregate-combine-rows-2
-slice-aggregate-combine-rows-2 c = search needs
+slice-aggregate-combined-2 : tie.Need-slice-aggregate-combined-2
+slice-aggregate-combined-2 c = search needs
 
-combine-rows-requires : tie.Need-combine-rows-requires
-combine-rows-requires c κs =
-    let e = c .before .before .before .before .before .before .before .before .before .before .before in
-    let b = start e in
-    let g-fits = subst Sixteen (sym (g-is e)) (fits b .0) in
-    let h-fits = subst Sixteen (sym (h-is e)) (fits b .1) in (
-      (g-fits .0, g-fits .1, h-fits .0, h-fits .1),
-      (
-        (omega (arith, settled b), room b (i b) (inside b), target-small b, pivot-small b),
-        (unused b (i b) (inside b), unused b (j b) (other b)),
-      ),
-    )
+combined-requires : tie.Need-combined-requires
+combined-requires c κs =
+    let l = c .before .before .before .before in
+    let m = multiplied l in
+    subst (λ w. RowsFit (g m) (h m) w (now (pivot-read m .row-at2 .result)) (origin l .args .other)) (sym (c .before .before .load .ensures))
+    (row-fits l)
 
-answer-requires-2 : tie.Need-answer-requires-2
-answer-requires-2 c κs = search needs
+put-limited-requires : tie.Need-put-limited-requires
+put-limited-requires c κs =
+    let l = c .before .before .before .before .before .before in
+    let b = origin l in
+    let load = c .before .before .before .before .load in
+    let fine = subst Storable (sym (ap (made l) (load .ensures) ∙ made-is l)) (storable b) in
+    (room b (i b) (inside b), subst Full (sym (c .before .combined .ensures .1)) (full-worked (made l (load .result)) fine))
 
 same-length-2 : tie.Need-same-length-2
 same-length-2 c = search needs
@@ -323,15 +345,22 @@ same-length-3 c = search needs
 
 returns-2 : tie.Need-returns-2
 returns-2 c =
-    let d = c .before .before in
-    let b = origin d in
-    let passed = listing-call d .before .before .if1 .left in
-    let room : p b .count + length (roots (x b .g)) ≤ 16 = omega (arith, count-is (multiplied d), passed) in (
-      reached-same (rows-are d)
-          (c .answer2 .ensures ∙ ap₂ (λ n k. answerOf n (listedProgress (p b) k)) (refusal-is d) (count-is (multiplied d)))
+    let l = c .before .before .before .before .before .before .before .before in
+    let m = multiplied l in
+    let b = origin l in
+    let put = c .before .put-limited in
+    let worked = c .before .before .before .combined .ensures in
+    let load = c .before .before .before .before .before .before .load in
+    let same = ap (made l) (load .ensures) ∙ made-is l in
+    let refusal = worked .0 ∙ ap refusalOf same in
+    let few : p b .count + length (roots (x b .g)) ≤ 16 = omega (arith, count-is m, l .before .before .if1 .left) in (
+      reached-same
+          (put .ensures .0 ∙ ap₂ (saved (rows b) (i b)) refusal
+          (ap numbersHeld (worked .1) ∙ numbers-worked (made l (load .result)) ∙ ap numbersOf same))
+          (put .ensures .1 ∙ ap₂ (λ n k. answerOf n (listedProgress (p b) k)) refusal (count-is m))
           (combine-is b)
-          (combine-reached (side b) (ready b) (j b) (inside b) (settled b) (x b) (relisted d) room (storable b)),
-      ap (λ o. o .done) (c .answer2 .ensures),
+          (combine-reached (side b) (ready b) (j b) (inside b) (settled b) (x b) (relisted l) few (storable b)),
+      ap (λ o. o .done) (put .ensures .1),
     )
 
 pub combine-step-spec : {M : Type 1} → statement M
@@ -352,12 +381,12 @@ combine-step-spec =
     same-length
     returns
     list-roots-requires
-    mul-combine-rows
-    mul-combine-rows-2
-    slice-aggregate-combine-rows
-    slice-aggregate-combine-rows-2
-    combine-rows-requires
-    answer-requires-2
+    mul-load
+    load-requires
+    slice-aggregate-combined
+    slice-aggregate-combined-2
+    combined-requires
+    put-limited-requires
     same-length-2
     same-length-3
     returns-2)

@@ -8,12 +8,11 @@ use borrow.Author.Needs.{needs}
 use denote.Ref.{now}
 use lib.IntN.{ℤ}
 use lib.ListN.{take, drop}
-use Rattle.algebra.specs.Roots.{roots}
 use Rattle.rules.specs.Limits.{coefficientCount}
 use Rattle.rules.specs.Rows.{entry}
-use Rattle.rules.specs.Elimination.{multipliers}
+use Rattle.rules.specs.Elimination.{multipliers, rootsWith}
 use Rattle.rules.specs.Stores.{rowOf}
-use Rattle.roots.specs.RootSearch.{listed}
+use Rattle.multiplicities.specs.Counts.{listedWith}
 use Rattle.stores.specs.Flat.{entry-at}
 use Rattle.reduction.specs.StoreExchange.{length-entry, small-entry}
 use Rattle.reduction.proofs.step.put_multipliers_at.Statement.{statement}
@@ -88,7 +87,7 @@ returns c =
     let same = ap₂ multipliers (entry-of start (now (start .args .pivot))) (entry-of start (now (start .args .target))) in
     let put = m .put-multipliers .ensures in (
       put .0 ∙ ap (λ x. x .g) same,
-      (put .1 .0 ∙ ap (λ x. x .h) same, put .1 .1 ∙ ap (λ x. listed (roots (x .g))) same),
+      (put .1 .0 ∙ ap (λ x. x .h) same, put .1 .1 ∙ ap (λ x. listedWith (rootsWith (x .g))) same),
     )
 
 pub put-multipliers-at-spec : {M : Type 1} → statement M

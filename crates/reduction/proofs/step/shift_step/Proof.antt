@@ -1,98 +1,78 @@
--- `reduction::step::shift_step` meets its contract: the place of the row is lent, and is back with the shifted row or with zeros.
+-- `reduction::step::shift_step` meets its contract.
 -- Assumes nothing.
-use mathlib.Core.Path.{_≡_, sym, _∙_, ap, subst}
+use mathlib.Core.Path.{_≡_, sym, _∙_, ap, ap₂, subst}
 use mathlib.Core.List.{List}
-use Prim.Native.Nat.{ℕ, _+_, _*_, _-_}
-use native.Mathlib.Omega.{arith}
-use borrow.Rule.Slice.PartMut.{putMid}
+use Prim.Native.Nat.{ℕ, _*_}
+use borrow.Author.Needs.{needs}
 use denote.Ref.{now}
 use lib.Dec.{T}
 use lib.IntN.{ℤ}
-use lib.ListN.{length, take, drop}
-use borrow.Author.Needs.{needs}
 use Rattle.lists.specs.Tests.{every}
 use Rattle.rules.specs.Limits.{rowLength, small}
-use Rattle.rules.specs.Rows.{width}
-use Rattle.rules.specs.Stores.{rowOf}
-use Rattle.stores.specs.LentParts.{lent-long}
-use Rattle.working_rows.specs.Worked.{refusalOf, numbersOf}
-use Rattle.reduction.specs.NewRows.{shifted-storable, placed-lent}
-use Rattle.reduction.specs.StepLaws.{shiftedRow}
+use Rattle.working_rows.specs.Working.{numbersHeld, Full, full-loaded, numbers-loaded, length-held, width-of}
+use Rattle.working_rows.specs.Worked.{refusalOf, numbersOf, workedRow, numbers-worked}
+use Rattle.reduction.specs.NewRows.{saved, shifted-storable, full-worked}
 use Rattle.reduction.specs.StoreExchange.{numbersAt}
+use Rattle.reduction.specs.StepLaws.{shiftedRow}
 use Rattle.reduction.specs.Progress.{answerOf, shiftedProgress}
 use Rattle.reduction.proofs.step.shift_step.Statement.{statement}
 use Rattle.reduction.proofs.step.shift_step.Tie as tie
 
--- the place of the row
-module _ (c : tie.Start) where
-  abbrev rows : List ℤ
-  rows = now (c .args .rows)
+add-load : tie.Need-add-load
+add-load c = search needs
 
-  abbrev from : ℕ
-  from = c .args .p .settled * rowLength
+mul-load : tie.Need-mul-load
+mul-load c = search needs
 
-  lent-is : take (from + rowLength - from) (drop from rows) ≡ numbersAt rows (c .args .p .settled)
-  lent-is = let size : from + rowLength - from ≡ rowLength = omega arith in ap (λ n. take n (drop from rows)) size
+load-requires : tie.Need-load-requires
+load-requires c κs = search needs
 
-add-shift-into : tie.Need-add-shift-into
-add-shift-into c = search needs
-
-mul-from : tie.Need-mul-from
-mul-from c = search needs
-
-add-to : tie.Need-add-to
-add-to c = search needs
-
-mul-shift-into : tie.Need-mul-shift-into
-mul-shift-into c = search needs
-
-sub-shift-into : tie.Need-sub-shift-into
-sub-shift-into c = search needs
-
-part-shift-into-start : tie.Need-part-shift-into-start
-part-shift-into-start c = search needs
-
-part-shift-into-end : tie.Need-part-shift-into-end
-part-shift-into-end c = search needs
-
-shift-into-requires : tie.Need-shift-into-requires
-shift-into-requires c κs =
-    let s = c .before .before .before in (
-      lent-long (rows s) (from s) rowLength (s .pre .0),
-      subst (λ l. T (every small l)) (sym (lent-is s)) (s .pre .1),
-      s .pre .2 ∙ ap (λ l. width (rowOf l)) (sym (lent-is s)),
+shifted-requires : tie.Need-shifted-requires
+shifted-requires c κs =
+    let s = c .before .before .before .before .before in
+    let load = c .before .load in
+    let rows = now (s .args .rows) in
+    let at = s .args .p .settled * rowLength in (
+      subst Full (sym (load .ensures)) (full-loaded rows at (s .pre .0)),
+      subst (λ l. T (every small l)) (sym (ap numbersHeld (load .ensures) ∙ numbers-loaded rows at)) (s .pre .1),
+      width-of (load .result) _ _ (load .ensures),
     )
 
-answer-requires : tie.Need-answer-requires
-answer-requires c κs = search needs
+put-limited-requires : tie.Need-put-limited-requires
+put-limited-requires c κs =
+    let s = c .before .before .before .before .before .before in
+    let load = c .before .before .load in
+    let row = subst Full (sym (load .ensures)) (full-loaded (now (s .args .rows)) (s .args .p .settled * rowLength) (s .pre .0)) in
+    let storable = shifted-storable (numbersHeld (load .result)) (length-held (load .result) row) in
+    (s .pre .0, subst Full (sym (c .shifted .ensures .1)) (full-worked (shiftedRow (numbersHeld (load .result))) storable))
 
 same-length : tie.Need-same-length
 same-length c = search needs
 
 returns : tie.Need-returns
 returns c =
-    let s = c .before .before .before .before .before .before in
+    let s = c .before .before .before .before .before .before .before .before in
     let i = s .args .p .settled in
-    let new = c .before .before .shift-into .ensures in
-    let long = ap length (sym (lent-is s)) ∙ lent-long (rows s) (from s) rowLength (s .pre .0) in (
-      ap (putMid (from s) (from s + rowLength - from s) (rows s)) (new .1 ∙ ap (λ l. numbersOf (shiftedRow l)) (lent-is s))
-          ∙ placed-lent (rows s) i (shiftedRow (numbersAt (rows s) i)) (shifted-storable (numbersAt (rows s) i) long),
-      c .answer .ensures
-          ∙ ap (λ n. answerOf n (shiftedProgress (s .args .p))) (new .0 ∙ ap (λ l. refusalOf (shiftedRow l)) (lent-is s)),
+    let rows = now (s .args .rows) in
+    let put = c .before .put-limited in
+    let new = c .before .before .shifted .ensures in
+    let load = c .before .before .before .before .load in
+    let held = ap numbersHeld (load .ensures) ∙ numbers-loaded rows (i * rowLength) in
+    let refusal = new .0 ∙ ap (λ l. refusalOf (shiftedRow l)) held in (
+      put .ensures .0
+          ∙ ap₂ (saved rows i) refusal
+          (ap numbersHeld (new .1) ∙ numbers-worked (shiftedRow (numbersHeld (load .result))) ∙ ap (λ l. numbersOf (shiftedRow l)) held),
+      put .ensures .1 ∙ ap (λ n. answerOf n (shiftedProgress (s .args .p))) refusal,
     )
 
 pub shift-step-spec : {M : Type 1} → statement M
 shift-step-spec =
     tie.close
     (tie.spec
-    add-shift-into
-    mul-from
-    add-to
-    mul-shift-into
-    sub-shift-into
-    part-shift-into-start
-    part-shift-into-end
-    shift-into-requires
-    answer-requires
+    add-load
+    mul-load
+    load-requires
+    shifted-requires
+    put-limited-requires
     same-length
     returns)

@@ -108,7 +108,7 @@ width-at-requires : tie.Need-width-at-requires
 width-at-requires c κs =
     let b = c .before in
     let used = b .pre .1 in
-    (row-room-here b, used .0, unused-width (b .args .m) (b .args .span) (ready b) (i b) (inside b) (used .1))
+    (row-room-here b, used .0, unused-width columnCount (b .args .span) (ready b) (i b) (inside b) (used .1))
 
 side-zero-at-requires : tie.Need-side-zero-at-requires
 side-zero-at-requires c κs = row-room-here (start (c .before .before))

@@ -11,7 +11,7 @@ use lib.Seq.{paste, take-all, length-take-le}
 use Rattle.rules.specs.Limits.{relationLength, small}
 use Rattle.rules.specs.Elimination.{listing}
 use Rattle.polynomials.specs.Content.{read-back}
-use Rattle.roots.specs.RootSearch.{held}
+use Rattle.multiplicities.specs.Counts.{rootsHeld}
 use Rattle.sides.specs.Lent.{sideOf}
 use Rattle.sides.specs.Relations.{Relisted, relisted-none, relisted-more, length-listing, every-listing}
 use Rattle.sides.proofs.listing.list_roots.Statement.{statement}
@@ -19,7 +19,7 @@ use Rattle.sides.proofs.listing.list_roots.Tie as tie
 
 abbrev Inv-loop : tie.InvT-loop
 Inv-loop relations₀ count found side row n k₀ relations k =
-    (k ≤ n) × ((n ≡ found .count) × Relisted count row (take k (listing (sideOf side) (held found))) relations₀ relations)
+    (k ≤ n) × ((n ≡ found .count) × Relisted count row (take k (listing (sideOf side) (rootsHeld found))) relations₀ relations)
 
 abbrev μ-loop : tie.MeasureT-loop
 μ-loop relations₀ count found side row n k₀ relations k = n - k
@@ -27,12 +27,12 @@ abbrev μ-loop : tie.MeasureT-loop
 -- the roots in the order of the side
 module _ (c : tie.At-loop Inv-loop μ-loop) where
   abbrev listed : List ℤ
-  listed = listing (sideOf (c .before .args .side)) (held (c .before .args .found))
+  listed = listing (sideOf (c .before .args .side)) (rootsHeld (c .before .args .found))
 
   size : length listed ≡ c .before .args .found .count
   size =
       let found = c .before .args .found in
-      length-listing (sideOf (c .before .args .side)) (held found) ∙ length-take-le (found .count) (found .values) (omega arith)
+      length-listing (sideOf (c .before .args .side)) (rootsHeld found) ∙ length-take-le (found .count) (found .values) (omega arith)
 
 loop-holds : tie.Need-loop-holds Inv-loop μ-loop
 loop-holds c = (omega arith, (refl, relisted-none (c .args .count) (now (c .args .row)) (now (c .args .relations)) (c .pre .0 .0)))
@@ -64,7 +64,7 @@ loop-again c =
     let stored =
     c .before .save-relation .ensures
     ∙ ap (λ z. paste (at .loop .relations) ((args .count + k) * relationLength) (z ∷ now (args .row)) relationLength) value in
-    let small-listed = every-listing (sideOf (args .side)) small (held (args .found)) (at .before .pre .1 .0) in
+    let small-listed = every-listing (sideOf (args .side)) small (rootsHeld (args .found)) (at .before .pre .1 .0) in
     let more = relisted-more (args .count) k (now (args .row)) (listed at) (now (args .relations)) (at .loop .relations)
     (at .loop .inv .1 .1)
     (rw (size at) (omega arith)) (omega arith) (at .before .pre .1 .2) (at .before .pre .1 .1) small-listed in

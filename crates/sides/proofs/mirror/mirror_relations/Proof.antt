@@ -3,10 +3,9 @@
 -- Assumes nothing.
 use Prim.Native.Nat.{ℕ, _+_, _*_, _-_, _≤_}
 use native.Mathlib.Omega.{arith}
-use mathlib.Core.Path.{_≡_, _∙_, ap, ap₂}
+use mathlib.Core.Path.{_≡_, _∙_, ap}
 use mathlib.Core.List.{List, _∷_}
-use borrow.Author.Needs.{needs, sfits-of}
-use borrow.Rule.Slice.PartMut.{midOf}
+use borrow.Author.Needs.{sfits-of}
 use denote.Ref.{now}
 use lib.Dec.{T}
 use lib.IntN.{ℤ, pos, negℤ}
@@ -18,7 +17,6 @@ use mir.Facts.{toZ-ofZ}
 use Rattle.lists.specs.Pasted.{paste-cons}
 use Rattle.rules.specs.Limits.{rowLength, relationLength, small}
 use Rattle.lists.specs.Tests.{every}
-use Rattle.stores.specs.LentParts.{lent-long, lent-back}
 use Rattle.sides.specs.MirrorLaws.{Changed, mirrorNumbers, mirrorRelationNumbers, changed-none, changed-next}
 use Rattle.sides.specs.StoreStates.{part-small}
 use Rattle.sides.specs.MirrorLaws.{relation-stays, used-within, index-small, row-small}
@@ -48,7 +46,7 @@ module _ (c : tie.In-loop Inv-loop μ-loop) where
   numbers =
       part-small relationLength (c .before .before .args .count) k store (c .loop-test .taken) (c .before .loop .inv .1 .1 .within)
 
--- the same relation with its n0 negated, and its row as it is lent
+-- this relation with its n0 negated
 module _ (d : tie.After-negated Inv-loop μ-loop) where
   abbrev here : tie.In-loop Inv-loop μ-loop
   here = d .before .before
@@ -70,13 +68,9 @@ module _ (d : tie.After-negated Inv-loop μ-loop) where
   room : place + 1 + rowLength ≤ length begun
   room = simp length-set (omega (arith, long here))
 
-  abbrev row : List ℤ
-  row = take rowLength (drop (place + 1) (store here))
-
-  lent-row : midOf (place + 1) (place + 1 + rowLength - (place + 1)) begun ≡ row
-  lent-row =
-      let width : place + 1 + rowLength - (place + 1) ≡ rowLength = omega arith in
-      ap₂ take width (drop-set-lt (place + 1) (store here) place index (omega arith))
+  -- the numbers behind n0 are as they were
+  behind : drop (place + 1) begun ≡ drop (place + 1) (store here)
+  behind = drop-set-lt (place + 1) (store here) place index (omega arith)
 
 loop-holds : tie.Need-loop-holds Inv-loop μ-loop
 loop-holds c =
@@ -99,8 +93,8 @@ negated-requires c κs =
     let read : SFits w64 (getD (store at) (k at * relationLength) (pos 0)) = sfits-of (c .negated-arg .given) in
     rw (toZ-ofZ read) (omega (arith, index-small (store at) (k at * relationLength) (numbers at)))
 
-mul-t14 : tie.Need-mul-t14 Inv-loop μ-loop
-mul-t14 c = omega (arith, long (here c))
+mul-t13 : tie.Need-mul-t13 Inv-loop μ-loop
+mul-t13 c = omega (arith, long (here c))
 
 slice-set-from-store : tie.Need-slice-set-from-store Inv-loop μ-loop
 slice-set-from-store c = omega (arith, long (here c))
@@ -108,28 +102,10 @@ slice-set-from-store c = omega (arith, long (here c))
 add-row : tie.Need-add-row Inv-loop μ-loop
 add-row c = omega (arith, long (here c))
 
-add-end : tie.Need-add-end Inv-loop μ-loop
-add-end c = omega (arith, long (here c))
-
-mul-mirror : tie.Need-mul-mirror Inv-loop μ-loop
-mul-mirror c = omega (arith, long (here c))
-
-sub-mirror : tie.Need-sub-mirror Inv-loop μ-loop
-sub-mirror c = search needs
-
-part-mirror-start : tie.Need-part-mirror-start Inv-loop μ-loop
-part-mirror-start c = search needs
-
-part-mirror-end : tie.Need-part-mirror-end Inv-loop μ-loop
-part-mirror-end c = room c
-
-mirror-requires : tie.Need-mirror-requires Inv-loop μ-loop
-mirror-requires c κs =
-    let d = c .before in (
-      here d .before .before .pre .0,
-      lent-long (begun d) (place d + 1) rowLength (room d),
-      rw (lent-row d) (row-small (store (here d)) (place d) (numbers (here d))),
-    )
+mirror-row-requires : tie.Need-mirror-row-requires Inv-loop μ-loop
+mirror-row-requires c κs =
+    let d = c .before in
+    (here d .before .before .pre .0, room d, rw (behind d) (row-small (store (here d)) (place d) (numbers (here d))))
 
 add-k : tie.Need-add-k Inv-loop μ-loop
 add-k c = omega arith
@@ -145,13 +121,12 @@ loop-again c =
     let next = changed-next relationLength (s .args .count) (s .args .from) (mirrorRelationNumbers (s .args .span))
     (relation-stays (s .args .span) (s .pre .0))
     (now (s .args .store)) (store at) (k at) (at .before .loop .inv .0) (at .loop-test .taken) (at .before .loop .inv .1 .1) in
-    let mirror = c .before .mirror in
-    let width = mirror .kept .0 ∙ lent-long (begun d) (place d + 1) rowLength (room d) in
-    let mirrored = mirror .ensures ∙ ap (mirrorNumbers (s .args .span)) (lent-row d) in
-    let stored = lent-back (begun d) (place d + 1) rowLength (mirror .last .0) width
-    ∙ paste-cons (store at) (place d) (index d) (mirror .last .0) rowLength (omega (arith, long at))
+    let mirrored = mirrorNumbers (s .args .span) (take rowLength (drop (place d + 1) (store at))) in
+    let stored = c .before .mirror-row .ensures
+    ∙ ap (λ l. paste (begun d) (place d + 1) (mirrorNumbers (s .args .span) (take rowLength l)) rowLength) (behind d)
+    ∙ paste-cons (store at) (place d) (index d) mirrored rowLength (omega (arith, long at))
     ∙ ap (λ p. paste (store at) (place d) p relationLength)
-    (ap₂ _∷_ (index-is d) mirrored ∙ mirror-relation (store at) (place d) (s .args .span)) in
+    (ap (λ n. n ∷ mirrored) (index-is d) ∙ mirror-relation (store at) (place d) (s .args .span)) in
     (omega arith, (omega arith, rw stored next))
 
 same-length : tie.Need-same-length Inv-loop μ-loop
@@ -174,15 +149,10 @@ mirror-relations-spec =
     mul-negated
     slice-copy-out-negated
     negated-requires
-    mul-t14
+    mul-t13
     slice-set-from-store
     add-row
-    add-end
-    mul-mirror
-    sub-mirror
-    part-mirror-start
-    part-mirror-end
-    mirror-requires
+    mirror-row-requires
     add-k
     loop-less
     loop-again

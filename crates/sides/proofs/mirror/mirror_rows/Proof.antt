@@ -2,17 +2,12 @@
 -- Assumes nothing.
 use Prim.Native.Nat.{ℕ, _+_, _*_, _-_, _≤_, zero-le}
 use native.Mathlib.Omega.{arith}
-use mathlib.Core.Path.{_≡_, _∙_, ap}
 use mathlib.Core.List.{List}
-use borrow.Author.Needs.{needs}
-use borrow.Rule.Slice.PartMut.{midOf}
 use denote.Ref.{now}
 use lib.IntN.{ℤ}
-use lib.ListN.{length, take, drop}
-use lib.Seq.{paste}
+use lib.ListN.{length}
 use Rattle.rules.specs.Limits.{rowLength}
 use Rattle.rules.specs.Stores.{rowNeed}
-use Rattle.stores.specs.LentParts.{lent-long, lent-back}
 use Rattle.sides.specs.StoreStates.{part-small}
 use Rattle.sides.specs.MirrorLaws.{Changed, mirrorNumbers, mirror-stays, changed-none, changed-next, rows-mirrored}
 use Rattle.sides.proofs.mirror.mirror_rows.Statement.{statement}
@@ -35,15 +30,6 @@ module _ (c : tie.In-loop Inv-loop μ-loop) where
   long : i * rowLength + rowLength ≤ length store
   long = omega (arith, c .before .loop .inv .1 .within .long)
 
-  -- the row as it is lent
-  abbrev lent : List ℤ
-  lent = midOf (i * rowLength) (i * rowLength + rowLength - i * rowLength) store
-
-  lent-row : lent ≡ take rowLength (drop (i * rowLength) store)
-  lent-row =
-      let width : i * rowLength + rowLength - i * rowLength ≡ rowLength = omega arith in
-      ap (λ n. take n (drop (i * rowLength) store)) width
-
 loop-holds : tie.Need-loop-holds Inv-loop μ-loop
 unfolding rowNeed
 loop-holds c =
@@ -52,27 +38,12 @@ loop-holds c =
 mul-at : tie.Need-mul-at Inv-loop μ-loop
 mul-at c = omega (arith, long c)
 
-add-end : tie.Need-add-end Inv-loop μ-loop
-add-end c = omega (arith, long c)
-
-mul-mirror : tie.Need-mul-mirror Inv-loop μ-loop
-mul-mirror c = omega (arith, long c)
-
-sub-mirror : tie.Need-sub-mirror Inv-loop μ-loop
-sub-mirror c = search needs
-
-part-mirror-start : tie.Need-part-mirror-start Inv-loop μ-loop
-part-mirror-start c = search needs
-
-part-mirror-end : tie.Need-part-mirror-end Inv-loop μ-loop
-part-mirror-end c = long c
-
-mirror-requires : tie.Need-mirror-requires Inv-loop μ-loop
-mirror-requires c κs =
+mirror-row-requires : tie.Need-mirror-row-requires Inv-loop μ-loop
+mirror-row-requires c κs =
     let at = c .before in
     let s = at .before .before in
     let numbers = part-small rowLength (s .args .equations) (i at) (store at) (at .loop-test .taken) (at .before .loop .inv .1 .within) in
-    (s .pre .0, lent-long (store at) (i at * rowLength) rowLength (long at), rw (lent-row at) numbers)
+    (s .pre .0, long at, numbers)
 
 add-i : tie.Need-add-i Inv-loop μ-loop
 add-i c = omega arith
@@ -86,11 +57,7 @@ loop-again c =
     let s = at .before .before in
     let next = changed-next rowLength (s .args .equations) 0 (mirrorNumbers (s .args .span)) (mirror-stays (s .args .span) (s .pre .0))
     (now (s .args .store)) (store at) (i at) zero-le (at .loop-test .taken) (at .before .loop .inv .1) in
-    let mirror = c .before .mirror in
-    let width = mirror .kept .0 ∙ lent-long (store at) (i at * rowLength) rowLength (long at) in
-    let stored = lent-back (store at) (i at * rowLength) rowLength (mirror .last .0) width
-    ∙ ap (λ p. paste (store at) (i at * rowLength) p rowLength) (mirror .ensures ∙ ap (mirrorNumbers (s .args .span)) (lent-row at)) in
-    (omega arith, rw stored next)
+    (omega arith, rw (c .before .mirror-row .ensures) next)
 
 same-length : tie.Need-same-length Inv-loop μ-loop
 same-length c = c .before .loop .inv .1 .kept .same-length
@@ -109,12 +76,7 @@ mirror-rows-spec =
     μ-loop
     loop-holds
     mul-at
-    add-end
-    mul-mirror
-    sub-mirror
-    part-mirror-start
-    part-mirror-end
-    mirror-requires
+    mirror-row-requires
     add-i
     loop-less
     loop-again

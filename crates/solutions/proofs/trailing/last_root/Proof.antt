@@ -8,7 +8,10 @@ use native.Mathlib.Omega.{arith}
 use denote.Ref.{now}
 use lib.Dec.{T}
 use lib.IntN.{ℤ}
-use lib.ListN.{length, take, drop, getD, length-take}
+use lib.ListN.{length, take, drop, getD, length-take, length-drop}
+use mir.Syntax.{w64}
+use mir.Val.{SFits}
+use mir.Facts.{toZ-ofZ}
 use Rattle.algebra.specs.Roots.{roots}
 use Rattle.rules.specs.Limits.{small, coefficientCount}
 use Rattle.lists.specs.Tests.{every}
@@ -16,6 +19,8 @@ use Rattle.rules.specs.Elimination.{leading, trailing, furthest}
 use Rattle.working_rows.specs.Found.{Columns-at}
 use Rattle.rules.specs.Calls.{rootFound, rootValue}
 use Rattle.roots.specs.RootSearch.{answered}
+use Rattle.roots.specs.declared.RootAnswer.{RootAnswer}
+use Rattle.multiplicities.specs.declared.RootWith.{RootWith}
 use Rattle.sides.specs.FurthestRoots.{furtherOf}
 use Rattle.sides.specs.ReportLaws.{diagonalAt, diagonal-long, diagonal-small, part-lent}
 use Rattle.solutions.specs.LargestRoots.{answered-option, option-of}
@@ -72,13 +77,16 @@ part c = part-lent (store (c .before)) (c .diagonal-at .result) (from (c .before
 lent : (c : tie.After-diagonal-at Inv-loop μ-loop) → c .diagonal-at .result + coefficientCount ≤ length (store (c .before))
 lent c = rw (c .diagonal-at .ensures) (long (c .before))
 
--- its furthest root
-root : (c : tie.After-largest-root Inv-loop μ-loop)
+-- its furthest root, without how often it occurs
+abbrev alone : RootWith → RootAnswer
+alone w = record { found = w .found; root = w .root }
+
+root : (c : tie.After-largest-with Inv-loop μ-loop)
     → let at = c .before .before .before in
-    c .largest-root .result ≡ answered (furthest leading (roots (take coefficientCount (drop (from at) (store at)))))
+    alone (c .largest-with .result) ≡ answered (furthest leading (roots (take coefficientCount (drop (from at) (store at)))))
 root c =
     let at = c .before .before .before in
-    c .largest-root .ensures ∙ ap (λ p. answered (furthest leading (roots p))) (part (c .before .before))
+    ap alone (c .largest-with .ensures) ∙ ap (λ p. answered (furthest leading (roots p))) (part (c .before .before))
 
 loop-holds : tie.Need-loop-holds Inv-loop μ-loop
 unfolding rootFound rootValue
@@ -99,24 +107,30 @@ diagonal-at-requires c κs = (omega (arith, start c .pre .0), Columns-at (order 
 add-to : tie.Need-add-to Inv-loop μ-loop
 add-to c = omega (arith, lent c)
 
-mul-largest-root : tie.Need-mul-largest-root Inv-loop μ-loop
-mul-largest-root c = omega (arith, lent c)
+mul-largest-with : tie.Need-mul-largest-with Inv-loop μ-loop
+mul-largest-with c = omega (arith, lent c)
 
-sub-largest-root : tie.Need-sub-largest-root Inv-loop μ-loop
-sub-largest-root c = omega (arith, lent c)
+sub-largest-with : tie.Need-sub-largest-with Inv-loop μ-loop
+sub-largest-with c = omega (arith, lent c)
 
-part-largest-root-start : tie.Need-part-largest-root-start Inv-loop μ-loop
-part-largest-root-start c = omega (arith, lent c)
+part-largest-with-start : tie.Need-part-largest-with-start Inv-loop μ-loop
+part-largest-with-start c = omega (arith, lent c)
 
-part-largest-root-end : tie.Need-part-largest-root-end Inv-loop μ-loop
-part-largest-root-end c = omega (arith, lent c)
+part-largest-with-end : tie.Need-part-largest-with-end Inv-loop μ-loop
+part-largest-with-end c = omega (arith, lent c)
 
-largest-root-requires : tie.Need-largest-root-requires Inv-loop μ-loop
-largest-root-requires c κs = rw (part (c .before)) (rw length-take (omega arith), numbers (c .before .before))
+largest-with-requires : tie.Need-largest-with-requires Inv-loop μ-loop
+largest-with-requires c κs =
+    let at = c .before .before in
+    rw (part (c .before)) (rw length-take (omega (arith, long at, length-drop (from at) (store at))), numbers at)
+
+fits-root : (c : tie.After-struct-told Inv-loop μ-loop) → SFits w64 (c .before .largest-with .result .root)
+fits-root c = record { sfits = c .struct-told .given .1 .0 .1 }
 
 larger-requires : tie.Need-larger-requires Inv-loop μ-loop
 larger-requires c κs =
-    (answered-option _ (c .before .before .before .before .loop .inv .1 .1), answered-option _ (root c))
+    rw (toZ-ofZ (fits-root c))
+    (answered-option _ (c .before .before .before .before .before .loop .inv .1 .1), answered-option _ (root (c .before)))
 
 add-j : tie.Need-add-j Inv-loop μ-loop
 add-j c = omega arith
@@ -126,12 +140,13 @@ loop-less c = omega arith
 
 loop-again : tie.Need-loop-again Inv-loop μ-loop
 loop-again c =
-    let at = c .before .before .before .before in
+    let at = c .before .before .before .before .before in
     let inv = at .before .loop .inv in
-    let answer = ap₂ (λ x y. answered (furtherOf leading x y)) (option-of _ (inv .1 .1)) (option-of _ (root (c .before))) in
+    let answer = ap₂ (λ x y. answered (furtherOf leading x y)) (option-of _ (inv .1 .1)) (option-of _ (root (c .before .before))) in
     let next = last-next (span at) (settled at) (store at) (order at) (enough at) (start at .pre .1) (start at .pre .2) (j at)
     (at .loop-test .taken) in
-    (enough at, (omega arith, c .larger .ensures ∙ answer ∙ ap answered next))
+    let larger = rw (toZ-ofZ (fits-root (c .before))) at (c .larger .ensures) in
+    (enough at, (omega arith, larger ∙ answer ∙ ap answered next))
 
 returns : tie.Need-returns Inv-loop μ-loop
 returns c =
@@ -152,11 +167,11 @@ last-root-spec =
     array-read-diagonal-at
     diagonal-at-requires
     add-to
-    mul-largest-root
-    sub-largest-root
-    part-largest-root-start
-    part-largest-root-end
-    largest-root-requires
+    mul-largest-with
+    sub-largest-with
+    part-largest-with-start
+    part-largest-with-end
+    largest-with-requires
     larger-requires
     add-j
     loop-less

@@ -1,5 +1,5 @@
--- `working_rows::mirroring::alternate_signs` meets its contract. The loop's invariant: i is odd, and before it the numbers at odd places have
--- changed their sign.
+-- `working_rows::mirroring::alternate_signs` meets its contract. The loop's invariant: i is odd, and before it the numbers at odd places
+-- have changed their sign.
 -- Assumes nothing.
 use Prim.Native.Nat.{_+_, _-_, _%_, _≤_}
 use native.Mathlib.Nat.{le-refl}
@@ -8,24 +8,23 @@ use mathlib.Core.Path.{_≡_, _∙_, ap}
 use borrow.Author.Needs.{needs, sfits-of}
 use denote.Ref.{now}
 use lib.IntN.{pos, negℤ}
-use lib.ListN.{getD}
+use lib.ListN.{length, getD}
 use mir.Syntax.{w64}
 use mir.Val.{SFits, toZ, ofZ}
 use mir.Facts.{toZ-ofZ}
-use Rattle.rules.specs.Limits.{rowLength}
 use Rattle.polynomials.specs.Content.{small-at}
 use Rattle.working_rows.specs.Mirroring.{Alternated, alternated-none, alternated-next, alternated-all}
 use Rattle.working_rows.proofs.mirroring.alternate_signs.Statement.{statement}
 use Rattle.working_rows.proofs.mirroring.alternate_signs.Tie as tie
 
 abbrev Inv-loop : tie.InvT-loop
-Inv-loop row₀ i₀ row i = (i ≤ rowLength + 1) × ((i % 2 ≡ 1) × Alternated i row₀ row)
+Inv-loop numbers₀ i₀ numbers i = (i ≤ length numbers₀ + 1) × ((i % 2 ≡ 1) × Alternated i numbers₀ numbers)
 
 abbrev μ-loop : tie.MeasureT-loop
-μ-loop row₀ i₀ row i = rowLength + 1 - i
+μ-loop numbers₀ i₀ numbers i = length numbers₀ + 1 - i
 
 loop-holds : tie.Need-loop-holds Inv-loop μ-loop
-loop-holds c = (omega arith, (omega arith, alternated-none (now (c .args .row))))
+loop-holds c = (omega arith, (omega arith, alternated-none (now (c .args .numbers))))
 
 mul-negated : tie.Need-mul-negated Inv-loop μ-loop
 mul-negated c = search needs
@@ -37,14 +36,14 @@ negated-requires : tie.Need-negated-requires Inv-loop μ-loop
 negated-requires c κs =
     let l = c .before .before .loop in
     let s = c .before .before .before in
-    let read : SFits w64 (getD (l .row) (l .i) (pos 0)) = sfits-of (c .negated-arg .given) in
-    rw (toZ-ofZ read, l .inv .1 .1 .kept (l .i) (le-refl (l .i))) (omega (arith, small-at (now (s .args .row)) (s .pre .1) (l .i)))
+    let read : SFits w64 (getD (l .numbers) (l .i) (pos 0)) = sfits-of (c .negated-arg .given) in
+    rw (toZ-ofZ read, l .inv .1 .1 .kept (l .i) (le-refl (l .i))) (omega (arith, small-at (now (s .args .numbers)) (s .pre) (l .i)))
 
 mul-t8 : tie.Need-mul-t8 Inv-loop μ-loop
 mul-t8 c = search needs
 
-slice-set-from-row : tie.Need-slice-set-from-row Inv-loop μ-loop
-slice-set-from-row c = search needs
+slice-set-from-numbers : tie.Need-slice-set-from-numbers Inv-loop μ-loop
+slice-set-from-numbers c = search needs
 
 add-i : tie.Need-add-i Inv-loop μ-loop
 add-i c = search needs
@@ -57,11 +56,14 @@ loop-again c =
     let at = c .before .before in
     let s = at .before .before in
     let l = at .before .loop in
-    let read : SFits w64 (getD (l .row) (l .i) (pos 0)) = sfits-of (c .before .negated-arg .given) in
-    let value : toZ w64 (ofZ w64 (c .negated .result)) ≡ negℤ (getD (l .row) (l .i) (pos 0)) =
+    let read : SFits w64 (getD (l .numbers) (l .i) (pos 0)) = sfits-of (c .before .negated-arg .given) in
+    let value : toZ w64 (ofZ w64 (c .negated .result)) ≡ negℤ (getD (l .numbers) (l .i) (pos 0)) =
     toZ-ofZ (sfits-of (c .negated .ok)) ∙ c .negated .ensures ∙ ap negℤ (toZ-ofZ read) in (
       omega arith,
-      (omega arith, rw value (alternated-next (l .i) (now (s .args .row)) (l .row) (λ e. omega arith) (omega arith) (l .inv .1 .1))),
+      (
+        omega arith,
+        rw value (alternated-next (l .i) (now (s .args .numbers)) (l .numbers) (λ e. omega arith) (omega arith) (l .inv .1 .1)),
+      ),
     )
 
 same-length : tie.Need-same-length Inv-loop μ-loop
@@ -69,7 +71,7 @@ same-length c = c .before .loop .inv .1 .1 .same-length
 
 returns : tie.Need-returns Inv-loop μ-loop
 returns c =
-    alternated-all (c .before .loop .i) (now (c .before .before .args .row)) (c .before .loop .row) (omega arith)
+    alternated-all (c .before .loop .i) (now (c .before .before .args .numbers)) (c .before .loop .numbers) (omega arith)
     (c .before .loop .inv .1 .1)
 
 pub alternate-signs-spec : {M : Type 1} → statement M
@@ -83,7 +85,7 @@ alternate-signs-spec =
     slice-copy-out-negated
     negated-requires
     mul-t8
-    slice-set-from-row
+    slice-set-from-numbers
     add-i
     loop-less
     loop-again

@@ -16,13 +16,13 @@ use Rattle.working_rows.proofs.mirroring.exchange.Statement.{statement}
 use Rattle.working_rows.proofs.mirroring.exchange.Tie as tie
 
 abbrev Inv-loop : tie.InvT-loop
-Inv-loop row₀ a b k₀ row k = (k ≤ blockLength) × Exchanged a b k row₀ row
+Inv-loop entries₀ a b k₀ entries k = (k ≤ blockLength) × Exchanged a b k entries₀ entries
 
 abbrev μ-loop : tie.MeasureT-loop
-μ-loop row₀ a b k₀ row k = blockLength - k
+μ-loop entries₀ a b k₀ entries k = blockLength - k
 
 loop-holds : tie.Need-loop-holds Inv-loop μ-loop
-loop-holds c = (omega arith, exchanged-none (c .args .a) (c .args .b) (now (c .args .row)))
+loop-holds c = (omega arith, exchanged-none (c .args .a) (c .args .b) (now (c .args .entries)))
 
 add-kept : tie.Need-add-kept Inv-loop μ-loop
 add-kept c = search needs
@@ -33,14 +33,14 @@ mul-kept c = search needs
 slice-copy-out-kept : tie.Need-slice-copy-out-kept Inv-loop μ-loop
 slice-copy-out-kept c = search needs
 
-add-row : tie.Need-add-row Inv-loop μ-loop
-add-row c = search needs
+add-entries : tie.Need-add-entries Inv-loop μ-loop
+add-entries c = search needs
 
-mul-row : tie.Need-mul-row Inv-loop μ-loop
-mul-row c = search needs
+mul-entries : tie.Need-mul-entries Inv-loop μ-loop
+mul-entries c = search needs
 
-slice-copy-out-row : tie.Need-slice-copy-out-row Inv-loop μ-loop
-slice-copy-out-row c = search needs
+slice-copy-out-entries : tie.Need-slice-copy-out-entries Inv-loop μ-loop
+slice-copy-out-entries c = search needs
 
 add-t12 : tie.Need-add-t12 Inv-loop μ-loop
 add-t12 c = search needs
@@ -48,8 +48,8 @@ add-t12 c = search needs
 mul-t13 : tie.Need-mul-t13 Inv-loop μ-loop
 mul-t13 c = search needs
 
-slice-set-from-row : tie.Need-slice-set-from-row Inv-loop μ-loop
-slice-set-from-row c = search needs
+slice-set-from-entries : tie.Need-slice-set-from-entries Inv-loop μ-loop
+slice-set-from-entries c = search needs
 
 add-kept-2 : tie.Need-add-kept-2 Inv-loop μ-loop
 add-kept-2 c = search needs
@@ -70,13 +70,14 @@ loop-again : tie.Need-loop-again Inv-loop μ-loop
 loop-again c =
     let at = c .before .before in
     let s = at .before .before in
-    let row = at .before .loop .row in
+    let entries = at .before .loop .entries in
     let k = at .before .loop .k in
-    let first : SFits w64 (getD row (s .args .a + k) (pos 0)) = sfits-of (c .before .kept .given) in
-    let second : SFits w64 (getD row (s .args .b + k) (pos 0)) = sfits-of (c .row .given) in (
+    let first : SFits w64 (getD entries (s .args .a + k) (pos 0)) = sfits-of (c .before .kept .given) in
+    let second : SFits w64 (getD entries (s .args .b + k) (pos 0)) = sfits-of (c .entries .given) in (
       omega arith,
       rw (toZ-ofZ first, toZ-ofZ second)
-          (exchanged-next (s .args .a) (s .args .b) k (now (s .args .row)) row (omega arith) (omega arith) (at .before .loop .inv .1)),
+          (exchanged-next (s .args .a) (s .args .b) k (now (s .args .entries)) entries (omega arith) (omega arith)
+          (at .before .loop .inv .1)),
     )
 
 same-length : tie.Need-same-length Inv-loop μ-loop
@@ -95,12 +96,12 @@ exchange-spec =
     add-kept
     mul-kept
     slice-copy-out-kept
-    add-row
-    mul-row
-    slice-copy-out-row
+    add-entries
+    mul-entries
+    slice-copy-out-entries
     add-t12
     mul-t13
-    slice-set-from-row
+    slice-set-from-entries
     add-kept-2
     mul-kept-2
     slice-set-from-kept

@@ -9,13 +9,13 @@ use Rattle.working_rows.proofs.mirroring.turn.Statement.{statement}
 use Rattle.working_rows.proofs.mirroring.turn.Tie as tie
 
 abbrev Inv-loop : tie.InvT-loop
-Inv-loop row₀ span b₀ row b = (b ≤ span) × TurnedTo span b row₀ row
+Inv-loop entries₀ span b₀ entries b = (b ≤ span) × TurnedTo span b entries₀ entries
 
 abbrev μ-loop : tie.MeasureT-loop
-μ-loop row₀ span b₀ row b = span - b
+μ-loop entries₀ span b₀ entries b = span - b
 
 loop-holds : tie.Need-loop-holds Inv-loop μ-loop
-loop-holds c = (omega arith, turned-none (c .args .span) (now (c .args .row)))
+loop-holds c = (omega arith, turned-none (c .args .span) (now (c .args .entries)))
 
 mul-loop : tie.Need-mul-loop Inv-loop μ-loop
 mul-loop c = search needs
@@ -44,8 +44,8 @@ loop-again c =
     let s = at .before .before in
     let l = at .before .loop in (
       omega arith,
-      turned-next (s .args .span) (l .b) (now (s .args .row)) (l .row) (c .before .exchange .last .0) (at .loop-test .taken) (l .inv .1)
-          (c .before .exchange .ensures),
+      turned-next (s .args .span) (l .b) (now (s .args .entries)) (l .entries) (c .before .exchange .last .0) (at .loop-test .taken)
+          (l .inv .1) (c .before .exchange .ensures),
     )
 
 same-length : tie.Need-same-length Inv-loop μ-loop
@@ -54,7 +54,7 @@ same-length c = c .before .loop .inv .1 .same-length
 returns : tie.Need-returns Inv-loop μ-loop
 returns c =
     let s = c .before .before in
-    turned-all (s .args .span) (c .before .loop .b) (now (s .args .row)) (c .before .loop .row) (c .loop-test .left)
+    turned-all (s .args .span) (c .before .loop .b) (now (s .args .entries)) (c .before .loop .entries) (c .loop-test .left)
     (c .before .loop .inv .1)
 
 pub turn-spec : {M : Type 1} → statement M

@@ -16,7 +16,7 @@ use lib.ListN.{length, take, drop}
 use lib.Seq.{paste}
 use Rattle.algebra.specs.Polynomials.{shift}
 use Rattle.lists.specs.Tests.{every, every-part}
-use Rattle.rules.specs.Limits.{coefficientCount, blockLength, entriesLength, rowLength, small}
+use Rattle.rules.specs.Limits.{coefficientCount, blockLength, entriesLength, small}
 use Rattle.rules.specs.Rows.{shiftUp}
 use Rattle.rules.specs.Stores.{rowOf}
 use Rattle.rules.specs.Layout.{coefficientsAt}
@@ -26,12 +26,13 @@ use Rattle.working_rows.proofs.shifting.move_blocks.Statement.{statemen
 use Rattle.working_rows.proofs.shifting.move_blocks.Tie as tie
 
 abbrev Inv-loop : tie.InvT-loop
-Inv-loop place₀ table blocks count within₀ e₀ place within e =
-    (e ≤ count) × (length place ≡ rowLength) × (place ≡ overFront (leftPart (shiftUp (rowOf place₀))) place₀ (e * coefficientCount))
-    × (within ≡ every small (take (e * coefficientCount) (leftPart (shiftUp (rowOf place₀)))))
+Inv-loop entries₀ table blocks count within₀ e₀ entries within e =
+    (e ≤ count) × (length entries ≡ entriesLength)
+    × (entries ≡ overFront (leftPart (shiftUp (rowOf entries₀))) entries₀ (e * coefficientCount))
+    × (within ≡ every small (take (e * coefficientCount) (leftPart (shiftUp (rowOf entries₀)))))
 
 abbrev μ-loop : tie.MeasureT-loop
-μ-loop place₀ table blocks count within₀ e₀ place within e = count - e
+μ-loop entries₀ table blocks count within₀ e₀ entries within e = count - e
 
 -- polynomial e of the row, one block further down
 module _ (c : tie.In-loop Inv-loop μ-loop) where
@@ -42,7 +43,7 @@ module _ (c : tie.In-loop Inv-loop μ-loop) where
   start = looped .before
 
   abbrev row : List ℤ
-  row = now (start .args .place)
+  row = now (start .args .entries)
 
   abbrev full : List ℤ
   full = leftPart (shiftUp (rowOf row))
@@ -55,7 +56,7 @@ module _ (c : tie.In-loop Inv-loop μ-loop) where
 
   -- as it stands there still
   abbrev p : List ℤ
-  p = take coefficientCount (drop from (looped .loop .place))
+  p = take coefficientCount (drop from (looped .loop .entries))
 
   enough : entriesLength ≤ length row
   enough = omega (arith, start .pre .1)
@@ -136,7 +137,7 @@ same-length c = c .before .loop .inv .1 ∙ sym (c .before .before .pre .1)
 returns : tie.Need-returns Inv-loop μ-loop
 returns c =
     let loop = c .before .loop in
-    let l = now (c .before .before .args .place) in
+    let l = now (c .before .before .args .entries) in
     let full = leftPart (shiftUp (rowOf l)) in
     let all : loop .e * coefficientCount ≡ c .before .before .args .blocks * blockLength = omega arith in
     (loop .inv .2 ∙ ap (overFront full l) all, loop .inv .3 ∙ ap (λ n. every small (take n full)) all)

@@ -1,112 +1,204 @@
--- `working_rows::shifting::shifted` meets its contract: the row is saved, shifted where it was saved, and loaded.
+-- `working_rows::shifting::shifted` meets its contract: blocks moved up and the last one in use cleared make the left part of the shifted
+-- row, which is one block narrower; past the blocks that were moved it has only zeros, which are within ±C.
 -- Assumes nothing.
-use mathlib.Core.Path.{_≡_, sym, _∙_, ap, subst}
+use mathlib.Core.Path.{_≡_, sym, _∙_, ap, ap₂, subst}
+use mathlib.Core.Logic.{⊎-elim}
+use mathlib.Core.Bool.{_&&_}
+use mathlib.Core.List.{List, _++_}
+use Prim.Native.Nat.{ℕ, _+_, _*_, _-_, _<_}
 use native.Mathlib.Nat.{le-of-eq}
+use native.Mathlib.Omega.{arith}
 use lib.Dec.{T}
-use lib.IntN.{pos}
-use lib.ListN.{length, replicate, length-replicate}
+use lib.IntN.{ℤ, pos}
+use lib.ListN.{length, take, replicate}
+use lib.Seq.{paste, take-all}
 use borrow.Author.Needs.{needs}
-use Rattle.lists.specs.Tests.{every}
+use Rattle.algebra.specs.Polynomials.{shift, length-shift}
 use Rattle.lists.specs.Pasted.{paste-whole}
-use Rattle.rules.specs.Limits.{rowLength, small}
-use Rattle.rules.specs.Rows.{Row, coefficientsOf, shiftUp, width}
+use Rattle.lists.specs.Tests.{every}
+use Rattle.rules.specs.Limits.{coefficientCount, blockCount, blockLength, entriesLength, small}
+use Rattle.rules.specs.Rows.{shiftUp, width}
 use Rattle.rules.specs.Stores.{rowOf}
-use Rattle.rules.specs.Elimination.{Limited, within, beyond, limitCoefficients}
-use Rattle.working_rows.specs.Working.{numbersHeld, loaded, loaded-row, length-held, width-held}
-use Rattle.working_rows.specs.Worked.{refusalOf, numbersOf, workedRow, limit-zero, refused-beyond}
-use Rattle.working_rows.specs.Shifting.{shifted-held}
+use Rattle.rules.specs.Elimination.{limitCoefficients}
+use Rattle.working_rows.specs.declared.WorkingRow.{WorkingRow}
+use Rattle.working_rows.specs.Found.{width-most}
+use Rattle.working_rows.specs.Working.{leftPart, numbersHeld, Full, length-held, small-apart}
+use Rattle.working_rows.specs.Worked.{refusalOf, workedRow}
+use Rattle.working_rows.specs.Shifting.{shifted-long, shifted-numbers, shifted-narrower, rowOf-shifted, over-cleared, small-front}
 use Rattle.working_rows.proofs.shifting.shifted.Statement.{statement}
 use Rattle.working_rows.proofs.shifting.shifted.Tie as tie
 
--- the row as it is saved
-saved : (c : tie.After-save) → c .save .last .0 ≡ numbersHeld (c .before .before .args .row)
-saved c =
-    let start = c .before .before in
-    c .save .ensures
-    ∙ paste-whole (replicate rowLength (pos 0)) (numbersHeld (start .args .row)) rowLength (le-of-eq (length-replicate rowLength (pos 0)))
-    (length-held (start .args .row) (start .pre .0))
+-- the row, its entries and its right side
+module _ (c : tie.Start) where
+  abbrev row : WorkingRow
+  row = c .args .row
 
--- its shift
-module _ (c : tie.After-shift-into) where
+  abbrev e : List ℤ
+  e = row .entries
+
+  abbrev s : List ℤ
+  s = row .right
+
+  abbrev left : List ℤ
+  left = leftPart (shiftUp (rowOf e))
+
+  long : length e ≡ entriesLength
+  long = c .pre .0 .entries-long
+
+  size : length s ≡ coefficientCount
+  size = c .pre .0 .right-long
+
+  whole-side : take coefficientCount s ≡ s
+  whole-side = take-all coefficientCount s (le-of-eq size)
+
+-- the blocks that move up
+module _ (c : tie.Joined1) where
   abbrev start : tie.Start
-  start = c .before .before .before .before .before
+  start = c .before .before
 
-  abbrev row : Row
-  row = shiftUp (rowOf (numbersHeld (start .args .row)))
+  abbrev blocks : ℕ
+  blocks = c .if1 .last
 
-  abbrev new : Limited
-  new = limitCoefficients row
+  narrower : blocks ≡ width (rowOf (e start)) - 1
+  narrower =
+      ⊎-elim (λ w. w .1) (λ w. w .1 ∙ omega (arith, w .0 .left)) (c .if1 .came) ∙ ap (λ w. w - 1) (start .pre .2)
 
-  held-there : c .before .before .before .save .last .0 ≡ numbersHeld (start .args .row)
-  held-there = saved (c .before .before .before)
+  few : blocks < blockCount
+  few = omega (arith, width-most (e start), narrower)
 
-  refusal-is : c .shift-into .result ≡ refusalOf new
-  refusal-is = c .shift-into .ensures .0 ∙ ap (λ l. refusalOf (limitCoefficients (shiftUp (rowOf l)))) held-there
+-- the shifted left part
+module _ (c : tie.After-clear) where
+  abbrev moved : tie.After-move-blocks
+  moved = c .before .before .before .before
 
-  module _ (passed : new ≡ within row) where
-    numbers : c .shift-into .last .0 ≡ coefficientsOf row
-    unfolding numbersOf
-    numbers = c .shift-into .ensures .1 ∙ ap numbersOf (ap (λ l. limitCoefficients (shiftUp (rowOf l))) held-there ∙ passed)
+  abbrev chosen : tie.Joined1
+  chosen = moved .before .before .before .before .before
 
-    loaded-is : loaded (c .shift-into .last .0) 0 ≡ workedRow new
-    unfolding workedRow
-    loaded-is =
-        let held = shifted-held (numbersHeld (start .args .row)) (length-held (start .args .row) (start .pre .0)) row passed in
-        ap (λ l. loaded l 0) numbers ∙ loaded-row row (held .numbers) ∙ sym (ap workedRow passed)
+  left-is : c .clear .last .0 ≡ left (start chosen)
+  left-is =
+      let b = start chosen in
+      c .clear .ensures
+      ∙ ap (λ d. paste d (blocks chosen * blockLength) (replicate blockLength (pos 0)) blockLength) (moved .move-blocks .ensures .0)
+      ∙ over-cleared (e b) (s b) (long b) (size b) (blocks chosen) (narrower chosen)
 
-slice-aggregate-save : tie.Need-slice-aggregate-save
-slice-aggregate-save c = search needs
+-- the shifted row
+module _ (c : tie.After-put-moved) where
+  abbrev cleared : tie.After-clear
+  cleared = c .before .before .before .before
 
-save-requires : tie.Need-save-requires
-save-requires c κs = search needs
+  abbrev known : tie.Joined1
+  known = chosen cleared
 
-slice-aggregate-shift-into : tie.Need-slice-aggregate-shift-into
-slice-aggregate-shift-into c = search needs
+  abbrev origin : tie.Start
+  origin = start known
 
-shift-into-requires : tie.Need-shift-into-requires
-shift-into-requires c κs =
-    let stored = c .before .before in
-    let row = stored .before .before .args .row in
-    let pre = stored .before .before .pre in (
-      ap length (saved stored) ∙ length-held row (pre .0),
-      subst (λ l. T (every small l)) (sym (saved stored)) (pre .1),
-      pre .2 ∙ sym (ap (λ l. width (rowOf l)) (saved stored) ∙ width-held (row .entries) (row .right) (pre .0 .entries-long)),
+  abbrev new : WorkingRow
+  new = record { entries = cleared .clear .last .0; right = c .put-moved .last .0; width = blocks known }
+
+  side-is : new .right ≡ shift (s origin)
+  side-is =
+      c .put-moved .ensures .0 ∙ ap (λ q. paste (s origin) 0 (shift q) coefficientCount) (whole-side origin)
+      ∙ paste-whole (s origin) (shift (s origin)) coefficientCount (le-of-eq (size origin)) (length-shift (s origin) ∙ size origin)
+
+  parts-are : numbersHeld new ≡ left origin ++ shift (s origin)
+  parts-are = ap₂ _++_ (left-is cleared) side-is
+
+  holds : rowOf (numbersHeld new) ≡ shiftUp (rowOf (numbersHeld (row origin)))
+  holds =
+      let o = origin in
+      ap rowOf (parts-are ∙ sym (shifted-numbers (e o) (s o) (long o) (size o)))
+      ∙ rowOf-shifted (numbersHeld (row o)) (length-held (row o) (o .pre .0))
+
+  full : Full new
+  full =
+      let o = origin in
+      record {
+        entries-long = ap length (left-is cleared) ∙ shifted-long (e o) (s o) (long o) (size o);
+        right-long = ap length side-is ∙ length-shift (s o) ∙ size o;
+      }
+
+  wide : new .width ≡ width (rowOf (new .entries))
+  wide =
+      let o = origin in
+      narrower known ∙ sym (shifted-narrower (e o) (s o) (long o) (size o)) ∙ sym (ap (λ l. width (rowOf l)) (left-is cleared))
+
+  within : every small (numbersHeld new) ≡ (moved cleared .move-blocks .result && c .put-moved .result)
+  within =
+      let o = origin in
+      ap (every small) parts-are ∙ small-front (e o) (s o) (long o) (size o) (blocks known) (narrower known)
+      ∙ ap₂ _&&_ (sym (moved cleared .move-blocks .ensures .1))
+      (sym (c .put-moved .ensures .1 ∙ ap (λ q. every small (shift q)) (whole-side o)))
+
+pascal-requires : tie.Need-pascal-requires
+pascal-requires c κs = search needs
+
+sub-last : tie.Need-sub-last
+sub-last c = search needs
+
+slice-aggregate-move-blocks : tie.Need-slice-aggregate-move-blocks
+slice-aggregate-move-blocks c = search needs
+
+move-blocks-requires : tie.Need-move-blocks-requires
+move-blocks-requires c κs =
+    let d = c .before .before .before .before in
+    let o = start d in
+    (d .before .pascal .ensures, long o, small-apart (row o) (o .pre .1) .0, omega (arith, few d))
+
+slice-aggregate-clear : tie.Need-slice-aggregate-clear
+slice-aggregate-clear c = search needs
+
+mul-clear : tie.Need-mul-clear
+mul-clear c = let h = few (c .before .before .before .before .before .before .before .before) in search needs
+
+clear-requires : tie.Need-clear-requires
+clear-requires c κs =
+    let m = c .before .before .before in
+    let d = m .before .before .before .before .before in
+    omega (arith, m .move-blocks .kept .0, long (start d), few d)
+
+slice-aggregate-put-moved : tie.Need-slice-aggregate-put-moved
+slice-aggregate-put-moved c = search needs
+
+put-moved-requires : tie.Need-put-moved-requires
+put-moved-requires c κs =
+    let d = chosen (c .before .before .before) in
+    let o = start d in (
+      d .before .pascal .ensures,
+      le-of-eq (sym (size o)),
+      le-of-eq (sym (size o)),
+      subst (λ l. T (every small l)) (sym (whole-side o)) (small-apart (row o) (o .pre .1) .1),
     )
 
-broken-requires : tie.Need-broken-requires
-broken-requires c κs = search needs
+limited-requires : tie.Need-limited-requires
+limited-requires c κs =
+    let d = c .before .before in (
+      full d,
+      wide d,
+      ⊎-elim
+          (λ w. w .1 ∙ sym (within d ∙ ap (λ t. t && d .put-moved .result) (w .0 .taken)))
+          (λ w. w .1 ∙ w .0 .left ∙ sym (within d ∙ ap (λ t. t && d .put-moved .result) (w .0 .left)))
+          (c .if2 .came),
+    )
 
 returns : tie.Need-returns
 returns c =
-    let d = c .before .before .before in
-    let refused = refused-beyond (new d) (λ e. c .before .if1 .taken (refusal-is d ∙ e)) in (
-      c .broken .ensures .0 ∙ refusal-is d,
-      c .broken .ensures .1 ∙ ap (λ n. workedRow (beyond n)) (refusal-is d) ∙ sym (ap workedRow refused),
+    let d = c .before .before .before in (
+      c .limited .ensures .0 ∙ ap (λ r. refusalOf (limitCoefficients r)) (holds d),
+      c .limited .ensures .1 ∙ ap (λ r. workedRow (limitCoefficients r)) (holds d),
     )
-
-slice-aggregate-load : tie.Need-slice-aggregate-load
-slice-aggregate-load c = search needs
-
-load-requires : tie.Need-load-requires
-load-requires c κs = search needs
-
-returns-2 : tie.Need-returns-2
-returns-2 c =
-    let tested = c .before .before in
-    let d = tested .before .before in
-    let none = sym (refusal-is d) ∙ tested .if1 .left in
-    (sym none, c .load .ensures ∙ loaded-is d (limit-zero (row d) none))
 
 pub shifted-spec : {M : Type 1} → statement M
 shifted-spec =
     tie.close
     (tie.spec
-    slice-aggregate-save
-    save-requires
-    slice-aggregate-shift-into
-    shift-into-requires
-    broken-requires
-    returns
-    slice-aggregate-load
-    load-requires
-    returns-2)
+    pascal-requires
+    sub-last
+    slice-aggregate-move-blocks
+    move-blocks-requires
+    slice-aggregate-clear
+    mul-clear
+    clear-requires
+    slice-aggregate-put-moved
+    put-moved-requires
+    limited-requires
+    returns)

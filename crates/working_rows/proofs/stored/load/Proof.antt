@@ -1,6 +1,6 @@
 -- `working_rows::stored::load` meets its contract. Both arrays are overwritten whole.
 -- Assumes nothing.
-use mathlib.Core.Path.{_≡_, refl, _∙_, ap, ap₂}
+use mathlib.Core.Path.{_≡_, refl, _∙_, ap}
 use Prim.Native.Nat.{_+_, _-_, _≤_}
 use native.Mathlib.Omega.{arith}
 use borrow.Author.Needs.{needs}
@@ -8,7 +8,7 @@ use denote.Ref.{now}
 use lib.ListN.{length, take, drop, length-take, length-drop}
 use Rattle.lists.specs.Pasted.{paste-whole}
 use Rattle.rules.specs.Limits.{coefficientCount, entriesLength, rowLength}
-use Rattle.working_rows.specs.Working.{workingOf}
+use Rattle.working_rows.specs.Working.{width-loaded}
 use Rattle.working_rows.proofs.stored.load.Statement.{statement}
 use Rattle.working_rows.proofs.stored.load.Tie as tie
 
@@ -54,13 +54,10 @@ part-save-end-2 c = search needs
 save-requires-2 : tie.Need-save-requires-2
 save-requires-2 c κs = search needs
 
-working-requires : tie.Need-working-requires
-working-requires c κs = search needs
-
 returns : tie.Need-returns
 returns c =
-    let first = c .before .before .before .before .before .before in
-    let second = c .before .before in
+    let second = c .before in
+    let first = second .before .before .before .before in
     let start = first .before .before .before in
     let at = start .args .at in
     let store = now (start .args .store) in
@@ -69,10 +66,10 @@ returns c =
     let fits : entriesLength ≤ length (take (at + entriesLength - at) (drop at store)) = rw (length-take, length-drop) (omega arith) in
     let fits-side : coefficientCount ≤ length (take (at + rowLength - (at + entriesLength)) (drop (at + entriesLength) store)) =
     rw (length-take, length-drop) (omega arith) in
-    c .working .ensures
-    ∙ ap₂ workingOf
-    (first .save .ensures ∙ paste-whole _ _ _ fits refl ∙ ap (λ n. take n (drop at store)) size)
-    (second .save2 .ensures ∙ paste-whole _ _ _ fits-side refl ∙ ap (λ n. take n (drop (at + entriesLength) store)) side)
+    let left = first .save .ensures ∙ paste-whole _ _ _ fits refl ∙ ap (λ n. take n (drop at store)) size in
+    let right = second .save2 .ensures ∙ paste-whole _ _ _ fits-side refl ∙ ap (λ n. take n (drop (at + entriesLength) store)) side in
+    let wide = start .pre .1 ∙ width-loaded store at (start .pre .0) in
+    λ k. record { entries = left k; right = right k; width = wide k }
 
 pub load-spec : {M : Type 1} → statement M
 load-spec =
@@ -92,5 +89,4 @@ load-spec =
     part-save-start-2
     part-save-end-2
     save-requires-2
-    working-requires
     returns)

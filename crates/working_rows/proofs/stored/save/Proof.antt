@@ -11,17 +11,11 @@ use Rattle.working_rows.specs.Working.{paste-joined}
 use Rattle.working_rows.proofs.stored.save.Statement.{statement}
 use Rattle.working_rows.proofs.stored.save.Tie as tie
 
-slice-aggregate-save : tie.Need-slice-aggregate-save
-slice-aggregate-save c = search needs
-
 save-requires : tie.Need-save-requires
 save-requires c κs = search needs
 
 add-save : tie.Need-add-save
 add-save c = search needs
-
-slice-aggregate-save-2 : tie.Need-slice-aggregate-save-2
-slice-aggregate-save-2 c = search needs
 
 save-requires-2 : tie.Need-save-requires-2
 save-requires-2 c κs = search needs
@@ -31,11 +25,11 @@ same-length c = search needs
 
 returns : tie.Need-returns
 returns c =
-    let first = c .before .before .before .before .before in
+    let first = c .before .before .before .before .before .before .before in
     let start = first .before .before .before .before .before in
     let store = now (start .args .store) in
     let at = start .args .at in
-    let row = start .args .row in
+    let row = start .args .t3 in
     let full = start .pre .1 in
     c .before .save2 .ensures
     ∙ ap₂ (λ d n. paste d (at + entriesLength) (row .right) n) (first .save .ensures ∙ ap (paste store at (row .entries))
@@ -44,13 +38,4 @@ returns c =
     ∙ paste-joined store (row .entries) (row .right) at entriesLength coefficientCount (full .entries-long) (full .right-long) (omega arith)
 
 pub save-spec : {M : Type 1} → statement M
-save-spec =
-    tie.close
-    (tie.spec
-    slice-aggregate-save
-    save-requires
-    add-save
-    slice-aggregate-save-2
-    save-requires-2
-    same-length
-    returns)
+save-spec = tie.close (tie.spec save-requires add-save save-requires-2 same-length returns)
