@@ -9,15 +9,15 @@
 --   blocks-fit           the blocks in use are within a row's left part
 --   rows-between, relations-between   what passes the writer's check is zero between the blocks in use and the right side
 use Prim.Native.Nat.{ℕ, suc, _+_, _*_, _-_, _≤_, _<_}
-use native.Mathlib.Nat.{zero-add, suc-mul, mul-le-mul-right}
+use native.Mathlib.Nat.{zero-add, add-assoc, suc-mul, mul-le-mul-right, le-refl}
 use native.Mathlib.Omega.{arith}
-use mathlib.Core.Path.{_≡_, sym, _∙_, ap, subst}
+use mathlib.Core.Path.{_≡_, sym, _∙_, ap, ap₂, subst}
 use mathlib.Core.Logic.{inl}
-use mathlib.Core.List.{List}
+use mathlib.Core.List.{List, _++_, append-assoc}
 use lib.Dec.{T}
 use lib.IntN.{ℤ, pos}
-use lib.ListN.{length, take, drop, replicate, length-drop, length-take, length-replicate, drop-of-length-le}
-use lib.Seq.{paste, drop-drop, length-take-le}
+use lib.ListN.{length, take, drop, replicate, length-drop, length-take, length-replicate, take-append-drop, drop-of-length-le}
+use lib.Seq.{paste, take-paste, take-add, take-take, drop-drop, length-take-le}
 use Rattle.lists.specs.Parts.{held-every}
 use Rattle.lists.specs.Pasted.{paste-rest}
 use Rattle.lists.specs.Taken.{drop-take, part-of-part}
@@ -30,7 +30,6 @@ use Rattle.rules.specs.Layout.{NumbersRight, numbersRight-iff, coefficientsAt}
 use Rattle.rules.specs.SheetCalls.{checkWrite}
 use Rattle.stores.specs.Checks.{unused-iff}
 use Rattle.working_rows.specs.Found.{zero-from}
-use Rattle.combinations.specs.InPlace.{paste-own, paste-more}
 use Rattle.theory.specs.LimitsKept.{rowRight-iff, relationRight-iff}
 use Rattle.reading.specs.Zeros.{length-zeros, take-zeros, drop-zeros}
 use Rattle.writing.specs.WriterChecks.{checkWrite-iff, checked}
@@ -40,6 +39,26 @@ ZeroBetween size used n l = (i : ℕ) → i < n → T (isZero (take (size - coef
 
 abbrev pub clearedTo : List ℤ → ℕ → ℕ → ℕ → List ℤ
 clearedTo l size n k = paste l 0 (replicate (n * size) (pos 0)) k
+
+-- ---- parts pasted
+
+-- What stands at a place, pasted there.
+paste-own : (d : List ℤ) (a w : ℕ) → paste d a (take w (drop a d)) w ≡ d
+paste-own d a w =
+    ap (λ p. take a d ++ p ++ drop (a + w) d) (take-take w w (drop a d) (le-refl w))
+    ∙ append-assoc (take a d) (take w (drop a d)) (drop (a + w) d)
+    ∙ ap (λ r. take a d ++ (take w (drop a d) ++ r)) (sym (drop-drop w a d))
+    ∙ ap (λ r. take a d ++ r) (take-append-drop w (drop a d)) ∙ take-append-drop a d
+
+-- More of the same numbers behind them.
+paste-more : (d : List ℤ) (at : ℕ) (s : List ℤ) (k w : ℕ) → at + k + w ≤ length d → k + w ≤ length s
+    → paste (paste d at s k) (at + k) (take w (drop k s)) w ≡ paste d at s (k + w)
+paste-more d at s k w room long =
+    ap₂ (λ x y. x ++ take w (take w (drop k s)) ++ y) (take-paste d at s k (omega arith) (omega arith))
+    (paste-rest d at s k (at + k + w) (omega arith) (omega arith) (omega arith))
+    ∙ ap₂ (λ x y. take at d ++ take k s ++ x ++ drop y d) (take-take w w (drop k s) (le-refl w)) (add-assoc at k w)
+    ∙ ap (λ x. x ++ drop (at + (k + w)) d)
+    (append-assoc (take at d) (take k s) (take w (drop k s)) ∙ ap (λ x. take at d ++ x) (sym (take-add k w s)))
 
 -- ---- one record more
 
