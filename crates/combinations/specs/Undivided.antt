@@ -8,6 +8,7 @@
 --   dividedRow row d      the row divided by d
 --
 -- Main statements
+--   undivided-beyond      the answer tells whether a degree is past 15
 --   width-bound           a row that is zero from block n on is at most n blocks wide
 --   divided-width         a division keeps the width
 --   left-fits, right-fits, left-made, right-made   the parts of both rows, which are zero past the wider one's width
@@ -88,6 +89,15 @@ wholeRow l =
 
 unfoldable pub undividedOf : Polynomial → Polynomial → List ℤ → List ℤ → Combination
 undividedOf g h t u = cond (every isLow (combinations partCount g h t u)) (wholeRow (lowNumbers partCount g h t u)) pastRow
+
+pub undivided-beyond : (g h : Polynomial) (t u : List ℤ)
+    → (undividedOf g h t u) .beyond ≡ not (lowDegrees (combine g h (rowOf t) (rowOf u)))
+unfolding undividedOf
+undivided-beyond g h t u = cases (every isLow (combinations partCount g h t u)) ∙ ap not (sym (low-degrees g h t u))
+  where
+    cases : (b : Bool) → (cond b (wholeRow (lowNumbers partCount g h t u)) pastRow) .beyond ≡ not b
+    cases true = refl
+    cases false = refl
 
 -- ---- widths
 
