@@ -3,7 +3,6 @@ use polynomials::lengths::COEFFICIENTS;
 use reduction::step::Outcome;
 use reduction::step::Progress;
 use sides::Side;
-use stores::lengths::ENTRIES;
 use stores::lengths::ROW;
 use working_rows::WorkingRow;
 use working_rows::limits::Worked;
@@ -167,10 +166,7 @@ fn divided_row(d: i64, g: &[i64], h: &[i64], target: &[i64], pivot: &[i64]) -> W
     ensures { λ r. ⌜ r .refusal ≡ refusalOf (judgedRow (natAbs d) (now (g .entry)) (now (h .entry)) (now (target .entry)) (now (pivot .entry))) ⌝ }
     ensures { λ r. ⌜ r .row ≡ workedRow (judgedRow (natAbs d) (now (g .entry)) (now (h .entry)) (now (target .entry)) (now (pivot .entry))) ⌝ }
 {
-    let width = working_rows::entries::width(&target[..ENTRIES]);
-    let other = working_rows::entries::width(&pivot[..ENTRIES]);
-    let row = working_rows::stored::load(target, 0, width);
-    let u = combinations::undivided(g, h, row, pivot, other);
+    let u = combinations::undivided_stored(g, h, target, pivot);
     if u.beyond {
         if divides_combination(d, g, h, target, pivot) {
             return working_rows::limits::broken(7);

@@ -4,14 +4,13 @@ use mathlib.Core.Path.{_≡_, refl, sym, _∙_, ap, ap₂, subst}
 use mathlib.Core.Bool.{Bool, true, false, not}
 use mathlib.Core.List.{List}
 use Prim.Native.Nat.{ℕ, _+_, _^_, _<_}
-use native.Mathlib.Nat.{le-of-eq}
 use native.Mathlib.Omega.{arith}
 use borrow.Author.Tests.{not-true, not-false}
 use denote.Ref.{now}
 use lib.Dec.{T}
 use lib.IntN.{ℤ, natAbs}
-use lib.ListN.{length, take}
-use lib.Seq.{take-all, getD-drop}
+use lib.ListN.{length}
+use lib.Seq.{getD-drop}
 use mir.Syntax.{w64}
 use mir.Val.{toZ, ofZ}
 use mir.Facts.{toZ-ofZ}
@@ -27,11 +26,13 @@ use Rattle.rules.specs.Layout.{rowOf-coefficientsOf}
 use Rattle.rules.specs.Elimination.{limitCoefficients}
 use Rattle.stores.specs.Flat.{partCount}
 use Rattle.working_rows.specs.declared.WorkingRow.{WorkingRow}
-use Rattle.working_rows.specs.Working.{numbersHeld, Full, loaded, full-loaded, numbers-loaded, width-of, left-long, width-left}
+use Rattle.working_rows.specs.Working.{numbersHeld, Full, loaded}
 use Rattle.working_rows.specs.Worked.{refusalOf, workedRow}
+use Rattle.combinations.specs.declared.Combination.{Combination}
 use Rattle.combinations.specs.Combination.{lowNumbers, low-degrees, cut-low, StoreRow-cut}
 use Rattle.combinations.specs.Primitive.{cut-divided}
-use Rattle.combinations.specs.Undivided.{RowsFit, undividedOf, undivided-beyond, undivided-whole, wholly-full, wholly-held, all-below}
+use Rattle.combinations.specs.Undivided.{RowsFit, StoredFit, undividedOf, wholeRow, loaded-held, stored-fits, undivided-beyond}
+use Rattle.combinations.specs.Undivided.{undivided-whole, wholly-full, wholly-held, all-below}
 use Rattle.log_steps.specs.Logs.{dividesAll}
 use Rattle.log_steps.specs.Divisions.{combined, cut-exact, divided-past, divided-low}
 use Rattle.log_steps.specs.StoreChanges.{positive-size}
@@ -69,28 +70,25 @@ module _ (c : tie.Start) where
   long : length target ≡ rowLength
   long = c .pre .1 .1 .0
 
-  all : take rowLength target ≡ target
-  all = take-all rowLength target (le-of-eq long)
-
-  -- the row as it is loaded
-  row-held : {w : WorkingRow} → w ≡ loaded target 0 → numbersHeld w ≡ target
-  row-held e = ap numbersHeld e ∙ numbers-loaded target 0 ∙ all
-
-  fits : {w : WorkingRow} {n : ℕ} → w ≡ loaded target 0 → n ≡ width (rowOf (take entriesLength pivot)) → RowsFit g h w pivot n
-  fits {w} {n} e f =
+  stored : StoredFit g h target pivot
+  stored =
       let m = c .pre .1 .0 in
       let rows = c .pre .1 .1 in record {
         g-long = m .0;
         g-small = m .1;
         h-long = m .2;
         h-small = m .3;
-        target-full = subst Full (sym e) (full-loaded target 0 (omega (arith, long)));
-        target-small = subst (λ l. T (every small l)) (sym (row-held e)) (rows .2);
-        target-width = width-of w _ _ e;
+        target-long = long;
+        target-small = rows .2;
         pivot-long = rows .1;
         pivot-small = rows .3;
-        pivot-width = f ∙ width-left pivot (rows .1);
       }
+
+  fitted : RowsFit g h (loaded target 0) pivot (width (rowOf pivot))
+  fitted = stored-fits stored refl refl
+
+  held : numbersHeld (loaded target 0) ≡ target
+  held = loaded-held target long
 
   -- the degrees of the combination
   is-past : {t : Bool} → t ≡ not (lowDegrees combination) → t ≡ true → lowDegrees combination ≡ false
@@ -127,49 +125,50 @@ module _ (c : tie.Start) where
       cases false e = quotient-inexact d w (same ∙ e) ∙ sym (judged-inexact d g h target pivot e)
 
 -- the undivided row
-module _ (u : tie.After-undivided) where
+module _ (u : tie.After-undivided-stored) where
   abbrev start : tie.Start
-  start = u .before .before .before .before .before .before
+  start = u .before
 
-  fitted : RowsFit (g start) (h start) (u .before .load .result) (pivot start) (u .before .before .width2 .result)
-  fitted = fits start (u .before .load .ensures) (u .before .before .width2 .ensures)
+  abbrev made : Combination
+  made = u .undivided-stored .result
 
-  made : u .undivided .result .beyond ≡ not (lowDegrees (combination start))
-  made =
-      ap (λ r. r .beyond) (u .undivided .ensures)
-      ∙ undivided-beyond (g start) (h start) (numbersHeld (u .before .load .result)) (pivot start)
-      ∙ ap (λ t. not (lowDegrees (combined (g start) (h start) t (pivot start)))) (row-held start (u .before .load .ensures))
+  past-is : made .beyond ≡ not (lowDegrees (combination start))
+  past-is =
+      ap (λ r. r .beyond) (u .undivided-stored .ensures) ∙ undivided-beyond (g start) (h start) (target start) (pivot start)
 
-  is-low : u .undivided .result .beyond ≡ false
-      → (undividedOf (g start) (h start) (numbersHeld (u .before .load .result)) (pivot start)) .beyond ≡ false
-  is-low e = ap (λ r. r .beyond) (sym (u .undivided .ensures)) ∙ e
+  loaded-is : made ≡ undividedOf (g start) (h start) (numbersHeld (loaded (target start) 0)) (pivot start)
+  loaded-is = u .undivided-stored .ensures ∙ ap (λ t. undividedOf (g start) (h start) t (pivot start)) (sym (held start))
 
-slice-aggregate-width : tie.Need-slice-aggregate-width
-slice-aggregate-width c = let s = c .before in sym (left-long (now (s .args .target)) (s .pre .1 .1 .0))
+  module _ (e : made .beyond ≡ false) where
+    low : (undividedOf (g start) (h start) (numbersHeld (loaded (target start) 0)) (pivot start)) .beyond ≡ false
+    low = ap (λ r. r .beyond) (sym loaded-is) ∙ e
 
-width-requires : tie.Need-width-requires
-width-requires c κs = let s = c .before in left-long (now (s .args .target)) (s .pre .1 .1 .0)
+    abbrev numbers : List ℤ
+    numbers = lowNumbers partCount (g start) (h start) (numbersHeld (loaded (target start) 0)) (pivot start)
 
-slice-aggregate-width-2 : tie.Need-slice-aggregate-width-2
-slice-aggregate-width-2 c = let s = c .before .before .before in sym (left-long (now (s .args .pivot)) (s .pre .1 .1 .1))
+    whole : made ≡ wholeRow numbers
+    whole = loaded-is ∙ undivided-whole (fitted start) low
 
-width-requires-2 : tie.Need-width-requires-2
-width-requires-2 c κs = let s = c .before .before .before in left-long (now (s .args .pivot)) (s .pre .1 .1 .1)
+    row-full : Full (made .row)
+    row-full = subst (λ r. Full (r .row)) (sym whole) (wholly-full (fitted start) low)
 
-load-requires : tie.Need-load-requires
-load-requires c κs =
-    let s = c .before .before .before .before in
-    let long = s .pre .1 .1 .0 in (
-      omega (arith, long),
-      c .before .before .width .ensures ∙ width-left (now (s .args .target)) long ∙ ap (λ l. width (rowOf l)) (sym (all s)),
-    )
+    row-width : made .row .width ≡ width (rowOf (made .row .entries))
+    row-width = ap (λ r. r .row .width) whole ∙ sym (ap (λ r. width (rowOf (r .row .entries))) whole)
 
-undivided-requires : tie.Need-undivided-requires
-undivided-requires c κs = fits (c .before .before .before .before .before) (c .load .ensures) (c .before .width2 .ensures)
+    below : Below (2 ^ 63) numbers
+    below = all-below (fitted start) low
+
+    row-held : numbersHeld (made .row) ≡ lowNumbers partCount (g start) (h start) (target start) (pivot start)
+    row-held =
+        ap (λ r. numbersHeld (r .row)) whole ∙ wholly-held (fitted start) low
+        ∙ ap (λ t. lowNumbers partCount (g start) (h start) t (pivot start)) (held start)
+
+undivided-stored-requires : tie.Need-undivided-stored-requires
+undivided-stored-requires c κs = stored c
 
 divides-combination-requires : tie.Need-divides-combination-requires
 divides-combination-requires c κs =
-    let s = c .before .before .before .before .before .before .before in
+    let s = c .before .before in
     let rows = s .pre .1 .1 in
     (rw (toZ-ofZ (s .fits .d)) (positive s), (s .pre .1 .0, (rows .0, rows .1, rows .2, rows .3)))
 
@@ -179,10 +178,10 @@ broken-requires c κs = search needs
 returns : tie.Need-returns
 unfolding refusalOf
 returns c =
-    let u = c .before .before .before .before in
-    let s = c .before .before .before .before .before .before .before .before .before .before in
     let test = c .before .before in
-    let past = is-past s (made u) (c .before .before .before .if1 .taken) in
+    let u = test .before .before in
+    let s = start u in
+    let past = is-past s (past-is u) (test .before .if1 .taken) in
     let exact = sym (tested s (test .divides-combination .ensures)) ∙ c .before .if2 .taken in
     let e = judged-exact (d s) (g s) (h s) (target s) (pivot s) exact
     ∙ divided-past (d s) (positive s) (combination s) (true-T _ exact) past in
@@ -194,50 +193,37 @@ broken-requires-2 c κs = search needs
 returns-2 : tie.Need-returns-2
 unfolding refusalOf
 returns-2 c =
-    let s = c .before .before .before .before .before .before .before .before .before .before in
     let test = c .before .before in
+    let s = start (test .before .before) in
     let e = judged-inexact (d s) (g s) (h s) (target s) (pivot s) (sym (tested s (test .divides-combination .ensures)) ∙ c .before .if2 .left) in
     (c .broken2 .ensures .0 ∙ sym (ap refusalOf e), c .broken2 .ensures .1 ∙ sym (ap workedRow e))
 
 exact-quotient-requires : tie.Need-exact-quotient-requires
 exact-quotient-requires c κs =
     let u = c .before .before in
-    let s = c .before .before .before .before .before .before .before .before in
-    let low = is-low u (c .before .if1 .left) in
-    let whole = u .undivided .ensures ∙ undivided-whole (fitted u) low in
-    let below = all-below (fitted u) low in (
+    let s = start u in
+    let e = c .before .if1 .left in (
+      (row-full u e, row-width u e, rw (toZ-ofZ (s .fits .d)) (s .pre .0)),
       (
-        subst (λ r. Full (r .row)) (sym whole) (wholly-full (fitted u) low),
-        ap (λ r. r .row .width) whole ∙ sym (ap (λ r. width (rowOf (r .row .entries))) whole),
-        rw (toZ-ofZ (s .fits .d)) (s .pre .0),
-      ),
-      (
-        subst (λ r. Below (2 ^ 63) (r .row .entries)) (sym whole) (below-part (2 ^ 63) 0 entriesLength (lowNumbers partCount (g s) (h s) (numbersHeld (u .before .load .result)) (pivot s)) below),
-        subst (λ r. Below (2 ^ 63) (r .row .right)) (sym whole) (λ k. rw getD-drop (below (entriesLength + k))),
+        subst (λ r. Below (2 ^ 63) (r .row .entries)) (sym (whole u e)) (below-part (2 ^ 63) 0 entriesLength (numbers u e) (below u e)),
+        subst (λ r. Below (2 ^ 63) (r .row .right)) (sym (whole u e)) (λ k. rw getD-drop (below u e (entriesLength + k))),
       ),
     )
 
 returns-3 : tie.Need-returns-3
 returns-3 c =
     let u = c .before .before .before in
-    let s = c .before .before .before .before .before .before .before .before .before in
-    let low = is-low u (c .before .before .if1 .left) in
-    let whole = u .undivided .ensures ∙ undivided-whole (fitted u) low in
-    let held = ap (λ r. numbersHeld (r .row)) whole ∙ wholly-held (fitted u) low
-    ∙ ap (λ t. lowNumbers partCount (g s) (h s) t (pivot s)) (row-held s (u .before .load .ensures)) in
-    let e = (λ k. quotientOf (natAbs (toZ-ofZ (s .fits .d) k)) (u .undivided .result .row)) ∙ quotient-judged s (u .undivided .result .row) (low-of s (made u) (c .before .before .if1 .left)) held in
+    let s = start u in
+    let f = c .before .before .if1 .left in
+    let e = (λ k. quotientOf (natAbs (toZ-ofZ (s .fits .d) k)) (made u .row))
+    ∙ quotient-judged s (made u .row) (low-of s (past-is u) f) (row-held u f) in
     (c .exact-quotient .ensures .0 ∙ ap refusalOf e, c .exact-quotient .ensures .1 ∙ ap workedRow e)
 
 pub divided-row-spec : {M : Type 1} → statement M
 divided-row-spec =
     tie.close
     (tie.spec
-    slice-aggregate-width
-    width-requires
-    slice-aggregate-width-2
-    width-requires-2
-    load-requires
-    undivided-requires
+    undivided-stored-requires
     divides-combination-requires
     broken-requires
     returns
