@@ -2,12 +2,15 @@
 --
 -- Main definitions
 --   RowsFit g h target pivot width   what is asked where a row is combined with another
+--   StoredFit g h target pivot   the same where a store holds both rows
 --   pastRow               the answer where a degree is past 15
 --   undividedOf g h t u   the answer for the multipliers g and h and the numbers t and u of two rows
 --   Divisible row d       d divides every coefficient of a row
 --   dividedRow row d      the row divided by d
 --
 -- Main statements
+--   loaded-held, stored-fits   a row that has been loaded from a store
+--   undivided-beyond, undivided-past   the answer tells whether a degree is past 15; then it has no content
 --   width-bound           a row that is zero from block n on is at most n blocks wide
 --   divided-width         a division keeps the width
 --   left-fits, right-fits, left-made, right-made   the parts of both rows, which are zero past the wider one's width
@@ -25,7 +28,7 @@ use borrow.Author.Tests.{not-true, not-false}
 use lib.Dec.{T, eqb, eqb·suc-zero, lt→ltb}
 use lib.IntN.{ℤ, pos, natAbs}
 use lib.ListN.{length, take, drop, getD, replicate, length-drop, take-append-drop, drop-of-length-le}
-use lib.Seq.{take-at, drop-at, getD-drop}
+use lib.Seq.{take-at, take-all, drop-at, getD-drop}
 use lib.Signed.{ltZ, quotZ}
 use Rattle.lists.specs.Images.{zipWith-append, map-take, map-drop}
 use Rattle.lists.specs.Joined.{flatten-append}
@@ -47,7 +50,7 @@ use Rattle.working_rows.specs.declared.WorkingRow.{WorkingRow}
 use Rattle.working_rows.specs.Found.{width-rest, width-most, zero-later, zero-from}
 use Rattle.working_rows.specs.Worked.{workedRow, limit-within, limit-beyond}
 use Rattle.working_rows.specs.Working.{workingOf, numbersHeld, Full, full-of, length-held, small-apart, left-long}
-use Rattle.working_rows.specs.Working.{width-left, width-held, right-held, width-zero}
+use Rattle.working_rows.specs.Working.{width-left, width-held, right-held, width-zero, loaded, full-loaded, numbers-loaded, width-of}
 use Rattle.combinations.specs.declared.Made.{Made}
 use Rattle.combinations.specs.declared.Combination.{Combination}
 use Rattle.combinations.specs.Combination.{Counted, Shortened, shortened-fits, lowPart, combinations, lowNumbers, length-low, zero-part}
@@ -66,6 +69,35 @@ pub record RowsFit (g h : Polynomial) (target : WorkingRow) (pivot : List ℤ) (
   pub pivot-long : length pivot ≡ rowLength
   pub pivot-small : T (every small pivot)
   pub pivot-width : wide ≡ width (rowOf pivot)
+
+-- The same where both rows are held by a store.
+pub record StoredFit (g h : Polynomial) (target pivot : List ℤ) : Type 0 where
+  pub g-long : length g ≡ coefficientCount
+  pub g-small : T (every small g)
+  pub h-long : length h ≡ coefficientCount
+  pub h-small : T (every small h)
+  pub target-long : length target ≡ rowLength
+  pub target-small : T (every small target)
+  pub pivot-long : length pivot ≡ rowLength
+  pub pivot-small : T (every small pivot)
+
+pub loaded-held : (l : List ℤ) → length l ≡ rowLength → numbersHeld (loaded l 0) ≡ l
+loaded-held l long = numbers-loaded l 0 ∙ take-all rowLength l (le-of-eq long)
+
+pub stored-fits : {g h : Polynomial} {target pivot : List ℤ} {row : WorkingRow} {wide : ℕ} → StoredFit g h target pivot
+    → row ≡ loaded target 0 → wide ≡ width (rowOf pivot) → RowsFit g h row pivot wide
+stored-fits {target = target} {row = row} fits e f = record {
+  g-long = fits .g-long;
+  g-small = fits .g-small;
+  h-long = fits .h-long;
+  h-small = fits .h-small;
+  target-full = subst Full (sym e) (full-loaded target 0 (omega (arith, fits .target-long)));
+  target-small = subst (λ l. T (every small l)) (sym (ap numbersHeld e ∙ loaded-held target (fits .target-long))) (fits .target-small);
+  target-width = width-of row _ _ e;
+  pivot-long = fits .pivot-long;
+  pivot-small = fits .pivot-small;
+  pivot-width = f;
+}
 
 abbrev pub pastRow : Combination
 pastRow =
@@ -88,6 +120,24 @@ wholeRow l =
 
 unfoldable pub undividedOf : Polynomial → Polynomial → List ℤ → List ℤ → Combination
 undividedOf g h t u = cond (every isLow (combinations partCount g h t u)) (wholeRow (lowNumbers partCount g h t u)) pastRow
+
+pub undivided-beyond : (g h : Polynomial) (t u : List ℤ)
+    → (undividedOf g h t u) .beyond ≡ not (lowDegrees (combine g h (rowOf t) (rowOf u)))
+unfolding undividedOf
+undivided-beyond g h t u = cases (every isLow (combinations partCount g h t u)) ∙ ap not (sym (low-degrees g h t u))
+  where
+    cases : (b : Bool) → (cond b (wholeRow (lowNumbers partCount g h t u)) pastRow) .beyond ≡ not b
+    cases true = refl
+    cases false = refl
+
+pub undivided-past : (g h : Polynomial) (t u : List ℤ) → (undividedOf g h t u) .beyond ≡ true → (undividedOf g h t u) .content ≡ 0
+unfolding undividedOf
+undivided-past g h t u e = cases (every isLow (combinations partCount g h t u)) e
+  where
+    cases : (b : Bool) → (cond b (wholeRow (lowNumbers partCount g h t u)) pastRow) .beyond ≡ true
+        → (cond b (wholeRow (lowNumbers partCount g h t u)) pastRow) .content ≡ 0
+    cases true f = absurd (true≢false (sym f))
+    cases false f = refl
 
 -- ---- widths
 

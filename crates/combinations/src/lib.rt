@@ -25,7 +25,7 @@ ghost use Rattle.combinations.specs.Combination.{few, bothWithin, trim, 
 ghost use Rattle.combinations.specs.Combination.{combinations, lowNumbers};
 ghost use Rattle.combinations.specs.Primitive.{isLow};
 ghost use Rattle.combinations.specs.Parts.{sumOf, Known, SumsSaved, PartFits, PartMade, PartsFit, PartsMade};
-ghost use Rattle.combinations.specs.Undivided.{pastRow, undividedOf, RowsFit, Divisible, dividedRow};
+ghost use Rattle.combinations.specs.Undivided.{pastRow, undividedOf, RowsFit, StoredFit, Divisible, dividedRow};
 ghost use Rattle.polynomials.specs.Content.{Below};
 
 // The coefficients up to the highest nonzero one.
@@ -160,44 +160,6 @@ fn put_low(place: &mut [i64], g: &[i64], p: &[i64], h: &[i64], q: &[i64]) -> boo
         return true;
     }
     put_combined(place, g, p, h, q);
-    false
-}
-
-// The low coefficients of the combinations of the polynomials of two lists of numbers, over zeros, up to the first whose degree is past 15:
-// is there one? Nothing is done for polynomials that are zero in both.
-pub fn low_combination(
-    place: &mut [i64],
-    g: &[i64],
-    h: &[i64],
-    target: &[i64],
-    pivot: &[i64],
-) -> bool
-    requires { ⌜
-        (length (now g) ≡ coefficientCount) × T (every small (now g)) × (length (now h) ≡ coefficientCount) × T (every small (now h)) ⌝ }
-    requires { ⌜
-        (length (now target) ≡ length (now target) / coefficientCount * coefficientCount) × (length (now target) ≡ length (now pivot))
-        × T (every small (now target)) × T (every small (now pivot)) × (now place ≡ replicate (length (now target)) (pos 0)) ⌝ }
-    ensures { λ r. ⌜ r ≡ not (every isLow (combinations (length (now (target .entry)) / coefficientCount)
-        (now (g .entry)) (now (h .entry)) (now (target .entry)) (now (pivot .entry)))) ⌝ }
-    ensures { λ r. ⌜ (r ≡ false → now (place .exit) ≡ lowNumbers (length (now (target .entry)) / coefficientCount)
-        (now (g .entry)) (now (h .entry)) (now (target .entry)) (now (pivot .entry))) ⌝ }
-{
-    let a = trimmed(g);
-    let b = trimmed(h);
-    let count = target.len() / COEFFICIENTS;
-    let mut e = 0;
-    while e < count {
-        let from = e * COEFFICIENTS;
-        let to = from + COEFFICIENTS;
-        let p = &target[from..to];
-        let q = &pivot[from..to];
-        if !both_zero(p, q) {
-            if put_low(&mut place[from..to], a, shortened(p), b, shortened(q)) {
-                return true;
-            }
-        }
-        e += 1;
-    }
     false
 }
 
@@ -497,6 +459,17 @@ pub fn undivided(
         within: all.within,
         row,
     }
+}
+
+// The same of two rows that a store holds.
+pub fn undivided_stored(g: &[i64], h: &[i64], target: &[i64], pivot: &[i64]) -> Combination
+    requires { ⌜ StoredFit (now g) (now h) (now target) (now pivot) ⌝ }
+    ensures { λ r. ⌜ r ≡ undividedOf (now (g .entry)) (now (h .entry)) (now (target .entry)) (now (pivot .entry)) ⌝ }
+{
+    let width = working_rows::entries::width(&target[..ENTRIES]);
+    let other = working_rows::entries::width(&pivot[..ENTRIES]);
+    let row = working_rows::stored::load(target, 0, width);
+    undivided(g, h, row, pivot, other)
 }
 
 // The coefficients up to the highest nonzero one divided by d; the zeros behind stay.

@@ -105,7 +105,7 @@ module _ (g h : Polynomial) (t u : List ℤ) where
   sum-at e n l w = combination-at partCount g h t u e l ∙ ap (λ k. sumOf g (partAt k t e) h (partAt k u e)) (sym w)
 
 -- Whether d divides all numbers depends on their content alone.
-content-exact : (d : ℕ) (l : List ℤ) → T (dividesAll d l) ↔ (d ∣ content l)
+pub content-exact : (d : ℕ) (l : List ℤ) → T (dividesAll d l) ↔ (d ∣ content l)
 unfolding dividesAll
 content-exact d l = (λ t. divides-content d l (dividesAll-all d l t), back)
   where

@@ -2,11 +2,12 @@
 --
 -- Main definitions
 --   newRow d g h target pivot   the new row with its limits, from the numbers of both rows
---   judged d g h target pivot   the refusal by the integer and the new row: 13, 7, 8, or 0 for none
---   Made x n l                  n is the refusal of the new row x, and l its numbers where there is none
+--   judgedRow d g h target pivot   the new row, or 13 where the integer does not divide every coefficient
+--   quotientOf d row            a row divided by the integer with its limit, or 13
 --
 -- Main statements
---   judged-exact, judged-inexact, exact-judged, inexact-judged   the refusal tells whether the integer divides every coefficient
+--   judged-exact, judged-inexact, quotient-exact, quotient-inexact   the two cases
+--   exact-judged, inexact-judged   the refusal tells whether the integer divides every coefficient
 --   absent-combined, combine-allowed   the condition, where a row is not present, and where both are
 --   combine-many               too many relations
 --   combine-stepped            the new row, after the relations have been listed
@@ -29,6 +30,8 @@ use Rattle.rules.specs.Layout.{length-relationsOf}
 use Rattle.rules.specs.Elimination.{State, leading, refused, Limited, within, beyond, limitDegrees, limitCoefficients, rowAt, putLimited}
 use Rattle.rules.specs.Elimination.{listing, listRelations, rootRelations}
 use Rattle.sides.specs.Relations.{Relisted, length-listing}
+use Rattle.working_rows.specs.declared.WorkingRow.{WorkingRow}
+use Rattle.working_rows.specs.Working.{numbersHeld}
 use Rattle.working_rows.specs.Worked.{refusalOf, numbersOf}
 use Rattle.reduction.specs.declared.step.Progress.{Progress}
 use Rattle.reduction.specs.Progress.{Ready, state, stateOf, answerOf, listedProgress, ready-with}
@@ -41,16 +44,26 @@ use Rattle.log_steps.specs.StoreChanges.{Stepped, stepped-same, two-rows
 abbrev pub newRow : ℕ → Polynomial → Polynomial → List ℤ → List ℤ → Limited
 newRow d g h target pivot = limitDegrees (mapRow (divideBy d) (combine g h (rowOf target) (rowOf pivot)))
 
-pub record Made (x : Limited) (n : ℕ) (l : List ℤ) : Type 0 where
-  pub refusal-is : n ≡ refusalOf x
-  pub numbers-are : n ≡ 0 → l ≡ numbersOf x
-
 -- ---- the integer divides every coefficient, and the new row is within the limits
 
-unfoldable pub judged : ℕ → Polynomial → Polynomial → List ℤ → List ℤ → ℕ
-unfolding dividesAll coefficientsOf combine rowOf refusalOf limitDegrees mapRow divideBy
-judged d g h target pivot =
-    cond (dividesAll d (coefficientsOf (combine g h (rowOf target) (rowOf pivot)))) (refusalOf (newRow d g h target pivot)) 13
+unfoldable pub judgedRow : ℕ → Polynomial → Polynomial → List ℤ → List ℤ → Limited
+unfolding dividesAll coefficientsOf combine rowOf limitDegrees mapRow divideBy
+judgedRow d g h target pivot =
+    cond (dividesAll d (coefficientsOf (combine g h (rowOf target) (rowOf pivot)))) (newRow d g h target pivot) (beyond 13)
+
+-- A row divided by d, or 13.
+unfoldable pub quotientOf : ℕ → WorkingRow → Limited
+unfolding dividesAll limitCoefficients rowOf divideBy
+quotientOf d row = cond (dividesAll d (numbersHeld row)) (limitCoefficients (rowOf (divideBy d (numbersHeld row)))) (beyond 13)
+
+pub quotient-exact : (d : ℕ) (row : WorkingRow) → dividesAll d (numbersHeld row) ≡ true
+    → quotientOf d row ≡ limitCoefficients (rowOf (divideBy d (numbersHeld row)))
+unfolding quotientOf
+quotient-exact d row e = ap (λ t. cond t (limitCoefficients (rowOf (divideBy d (numbersHeld row)))) (beyond 13)) e
+
+pub quotient-inexact : (d : ℕ) (row : WorkingRow) → dividesAll d (numbersHeld row) ≡ false → quotientOf d row ≡ beyond 13
+unfolding quotientOf
+quotient-inexact d row e = ap (λ t. cond t (limitCoefficients (rowOf (divideBy d (numbersHeld row)))) (beyond 13)) e
 
 -- No limit of a new row has the number 13.
 limited-not : (q : Row) → refusalOf (limitDegrees q) ≢ 13
@@ -66,31 +79,30 @@ module _ (d : ℕ) (g h : Polynomial) (target pivot : List ℤ) where
   abbrev exact : Bool
   exact = dividesAll d (coefficientsOf (combine g h (rowOf target) (rowOf pivot)))
 
-  abbrev limit : ℕ
-  limit = refusalOf (newRow d g h target pivot)
+  pub judged-exact : exact ≡ true → judgedRow d g h target pivot ≡ newRow d g h target pivot
+  unfolding judgedRow
+  judged-exact e = ap (λ t. cond t (newRow d g h target pivot) (beyond 13)) e
 
-  pub judged-exact : exact ≡ true → judged d g h target pivot ≡ limit
-  unfolding judged
-  judged-exact e = ap (λ t. cond t limit 13) e
+  pub judged-inexact : exact ≡ false → judgedRow d g h target pivot ≡ beyond 13
+  unfolding judgedRow
+  judged-inexact e = ap (λ t. cond t (newRow d g h target pivot) (beyond 13)) e
 
-  pub judged-inexact : exact ≡ false → judged d g h target pivot ≡ 13
-  unfolding judged
-  judged-inexact e = ap (λ t. cond t limit 13) e
-
-  pub inexact-judged : judged d g h target pivot ≡ 13 → exact ≡ false
-  unfolding judged
-  inexact-judged e = cases exact e
+  pub inexact-judged : refusalOf (judgedRow d g h target pivot) ≡ 13 → exact ≡ false
+  inexact-judged e = cases exact refl
     where
-      cases : (t : Bool) → cond t limit 13 ≡ 13 → t ≡ false
-      cases true e = absurd (limited-not (mapRow (divideBy d) (combine g h (rowOf target) (rowOf pivot))) e)
-      cases false e = refl
+      cases : (t : Bool) → exact ≡ t → exact ≡ false
+      cases false f = f
+      cases true f =
+          absurd (limited-not (mapRow (divideBy d) (combine g h (rowOf target) (rowOf pivot)))
+          (sym (ap refusalOf (judged-exact f)) ∙ e))
 
-  pub exact-judged : judged d g h target pivot ≢ 13 → exact ≡ true
-  exact-judged n = cases exact judged-inexact
+  pub exact-judged : refusalOf (judgedRow d g h target pivot) ≢ 13 → exact ≡ true
+  unfolding refusalOf
+  exact-judged n = cases exact refl
     where
-      cases : (t : Bool) → (t ≡ false → judged d g h target pivot ≡ 13) → t ≡ true
-      cases true e = refl
-      cases false e = absurd (n (e refl))
+      cases : (t : Bool) → exact ≡ t → exact ≡ true
+      cases true f = f
+      cases false f = absurd (n (ap refusalOf (judged-inexact f)))
 
 module _ {rows relations : List ℤ} {p : Progress} (ready : Ready rows relations p) (none : p .settled ≡ 0) (i j d : ℕ)
     (g h : Polynomial) where

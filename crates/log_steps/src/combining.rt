@@ -4,6 +4,8 @@ use reduction::step::Outcome;
 use reduction::step::Progress;
 use sides::Side;
 use stores::lengths::ROW;
+use working_rows::WorkingRow;
+use working_rows::limits::Worked;
 ghost use mathlib.Core.Path.{_≡_};
 ghost use mathlib.Core.Bool.{true};
 ghost use mathlib.Core.List.{List};
@@ -11,19 +13,22 @@ ghost use Prim.Native.Nat.{ℕ, _^_, _≤_, _<_};
 ghost use lib.Dec.{T};
 ghost use lib.IntN.{ℤ, pos, natAbs};
 ghost use lib.Signed.{ltZ, quotZ, remZ};
-ghost use lib.ListN.{length, replicate};
+ghost use lib.ListN.{length};
 ghost use Rattle.algebra.specs.Gcd.{divideBy};
 ghost use Rattle.lists.specs.Tests.{every};
 ghost use Rattle.rules.specs.Limits.{rowLength, small, coefficientCount};
 ghost use Rattle.rules.specs.Rows.{coefficientsOf};
+ghost use Rattle.rules.specs.Rows as Rows;
+ghost use Rattle.rules.specs.Stores.{rowOf};
 ghost use Rattle.polynomials.specs.Content.{Below};
-ghost use Rattle.working_rows.specs.Worked.{numbersOf};
+ghost use Rattle.working_rows.specs.Working.{Full};
+ghost use Rattle.working_rows.specs.Worked.{refusalOf, workedRow, Shown};
 ghost use Rattle.reduction.specs.Progress.{Ready, stateOf};
 ghost use Rattle.reduction.specs.StoreExchange.{numbersAt};
 ghost use Rattle.log_steps.specs.Logs.{combining, combineRows, changed, dividesAll};
 ghost use Rattle.log_steps.specs.Divisions.{sumOf, combined};
 ghost use Rattle.log_steps.specs.StoreChanges.{Stepped};
-ghost use Rattle.log_steps.specs.StoreCombinations.{newRow, judged, Made};
+ghost use Rattle.log_steps.specs.StoreCombinations.{newRow, judgedRow, quotientOf};
 
 // The coefficients of a product of two polynomials.
 const PRODUCT: usize = COEFFICIENTS + COEFFICIENTS - 1;
@@ -117,33 +122,59 @@ fn divide_exactly(numbers: &mut [i64], d: i64) -> bool
     true
 }
 
-// The numbers of (g × target + h × pivot) / d, over zeros. If d does not divide every coefficient, 13; a degree past 15 is refused with 7; if
-// there is none, a coefficient past ±C with 8 (SCOPE 13.22, 13.26). The division does not change a degree, so the degrees are looked at
-// first, and where none is past 15, the numbers are all coefficients.
-fn put_divided(place: &mut [i64], d: i64, g: &[i64], h: &[i64], target: &[i64], pivot: &[i64]) -> u8
+// A row divided by d. If d does not divide every coefficient, 13; a coefficient past ±C is refused with 8 (SCOPE 13.22, 13.26). The
+// division keeps the width.
+fn exact_quotient(row: WorkingRow, d: i64) -> Worked
+    requires { ⌜ Full row × (row .width ≡ Rows.width (rowOf (row .entries))) × T (ltZ (pos 0) d) ⌝ }
+    requires { ⌜ Below (2 ^ 63) (row .entries) × Below (2 ^ 63) (row .right) ⌝ }
+    ensures { λ r. ⌜ (r .refusal ≡ refusalOf (quotientOf (natAbs d) row)) × (r .row ≡ workedRow (quotientOf (natAbs d) row)) ⌝ }
+{
+    let mut entries = row.entries;
+    let mut right = row.right;
+    if !divide_exactly(&mut entries, d) {
+        return working_rows::limits::broken(13);
+    }
+    if !divide_exactly(&mut right, d) {
+        return working_rows::limits::broken(13);
+    }
+    if !stores::checks::all_small(&entries[..]) {
+        return working_rows::limits::broken(8);
+    }
+    if !stores::checks::all_small(&right[..]) {
+        return working_rows::limits::broken(8);
+    }
+    let new = WorkingRow {
+        entries,
+        right,
+        width: row.width,
+    };
+    Worked {
+        refusal: 0,
+        row: new,
+    }
+}
+
+// The row (g × target + h × pivot) / d. A degree past 15 is refused with 7, if d divides every coefficient, also those past power 15 (SCOPE
+// 13.22, 13.26). The division does not change a degree, so the degrees are looked at first.
+fn divided_row(d: i64, g: &[i64], h: &[i64], target: &[i64], pivot: &[i64]) -> Worked
     requires { ⌜ T (ltZ (pos 0) d) ⌝ }
     requires { ⌜
         (length (now g) ≡ coefficientCount) × T (every small (now g)) × (length (now h) ≡ coefficientCount) × T (every small (now h)) ⌝ }
     requires { ⌜
-        (length (now target) ≡ rowLength) × (length (now pivot) ≡ rowLength) × T (every small (now target)) × T (every small (now pivot))
-        × (now place ≡ replicate rowLength (pos 0)) ⌝ }
-    ensures { λ r. ⌜ r ≡ judged (natAbs d) (now (g .entry)) (now (h .entry)) (now (target .entry)) (now (pivot .entry)) ⌝ }
-    ensures { λ r. ⌜ (r ≡ 0 → now (place .exit)
-        ≡ numbersOf (newRow (natAbs d) (now (g .entry)) (now (h .entry)) (now (target .entry)) (now (pivot .entry)))) ⌝ }
+        (length (now target) ≡ rowLength) × (length (now pivot) ≡ rowLength)
+        × T (every small (now target)) × T (every small (now pivot)) ⌝ }
+    ensures { λ r. ⌜ r .refusal ≡ refusalOf (judgedRow (natAbs d) (now (g .entry)) (now (h .entry)) (now (target .entry)) (now (pivot .entry))) ⌝ }
+    ensures { λ r. ⌜ r .row ≡ workedRow (judgedRow (natAbs d) (now (g .entry)) (now (h .entry)) (now (target .entry)) (now (pivot .entry))) ⌝ }
 {
-    if combinations::low_combination(place, g, h, target, pivot) {
+    let u = combinations::undivided_stored(g, h, target, pivot);
+    if u.beyond {
         if divides_combination(d, g, h, target, pivot) {
-            return 7;
+            return working_rows::limits::broken(7);
         }
-        return 13;
+        return working_rows::limits::broken(13);
     }
-    if !divide_exactly(place, d) {
-        return 13;
-    }
-    if !stores::checks::all_small(place) {
-        return 8;
-    }
-    0
+    let whole = u.row;
+    exact_quotient(whole, d)
 }
 
 // Row i, as it is, is listed at the roots of g, ascending; more than 16 relations are refused with 9. Then the new row takes its place, or
@@ -153,14 +184,14 @@ fn combine_allowed(
     relations: &mut [i64],
     i: usize,
     g: &[i64],
-    refusal: u8,
-    numbers: &[i64],
+    worked: Worked,
     p: Progress,
 ) -> Outcome
     requires { ⌜ Ready (now rows) (now relations) p × (p .settled ≡ 0) × (i < p .rows) ⌝ }
-    requires { ⌜ (length (now g) ≡ coefficientCount) × T (every small (now g)) × (length (now numbers) ≡ rowLength) ⌝ }
+    requires { ⌜ (length (now g) ≡ coefficientCount) × T (every small (now g)) × Full (worked .row) ⌝ }
     ensures { λ r. ⌜ ((j d : ℕ) (h : List ℤ) → j < p .rows
-        → Made (newRow d (now (g .entry)) h (numbersAt (now (rows .entry)) i) (numbersAt (now (rows .entry)) j)) refusal (now (numbers .entry))
+        → Shown (worked .refusal) (worked .row)
+        (newRow d (now (g .entry)) h (numbersAt (now (rows .entry)) i) (numbersAt (now (rows .entry)) j))
         → Stepped (now (rows .entry)) (now (relations .entry)) (now (rows .exit)) (now (relations .exit)) p r
         (combineRows (stateOf (now (rows .entry)) (now (relations .entry)) p) i j d (now (g .entry)) h)) ⌝ }
 {
@@ -179,11 +210,7 @@ fn combine_allowed(
         count,
         shifts: p.shifts,
     };
-    if refusal != 0 {
-        return reduction::step::answer(refusal, next);
-    }
-    stores::rows::save(rows, i * ROW, numbers);
-    reduction::step::answer(0, next)
+    reduction::step::put_limited(rows, i, worked, next)
 }
 
 // Row i becomes (g × row i + h × row j) / d, with g not zero and d a divisor of all of it (SCOPE 13.22).
@@ -212,10 +239,9 @@ pub fn combine_rows(
     }
     let target = stores::rows::row_at(rows, i * ROW);
     let pivot = stores::rows::row_at(rows, j * ROW);
-    let mut new = [0i64; ROW];
-    let refusal = put_divided(&mut new, d, g, h, target, pivot);
-    if refusal == 13 {
+    let worked = divided_row(d, g, h, target, pivot);
+    if worked.refusal == 13 {
         return reduction::step::answer(13, p);
     }
-    combine_allowed(rows, relations, i, g, refusal, &new[..], p)
+    combine_allowed(rows, relations, i, g, worked, p)
 }

@@ -23,8 +23,6 @@ ghost use Rattle.rules.specs.Rows as Rows;
 ghost use Rattle.rules.specs.Stores.{rowOf};
 ghost use Rattle.reduction.specs.StoreExchange.{numbersAt, narrowed};
 ghost use Rattle.reduction.specs.StepLaws.{metEntries};
-ghost use Rattle.log_steps.specs.Divisions.{sumOf, combined};
-ghost use Rattle.own_logs.specs.Contents.{PartContent, ContentOf};
 ghost use Rattle.own_logs.specs.OwnLines.{oneLine, CombinationLine, Readable, Eliminated, StepLines};
 
 // The kinds that our own run has (SCOPE 13.12).
@@ -35,9 +33,6 @@ const COMBINATION: usize = 2;
 const SHIFT: usize = 3;
 
 const DROP: usize = 5;
-
-// The polynomials of a row: the right side is the last.
-const PARTS: usize = ROW / COEFFICIENTS;
 
 // No step of a log, one or two. Past so many the numbers say nothing.
 pub(crate) struct Lines {
@@ -82,53 +77,6 @@ fn one(first: [i64; STEP]) -> Lines
     }
 }
 
-// The content of one polynomial g·p + h·q of a combination; nothing is done where p and q are zero. If its degree is past 15, which is
-// refused, the content is not asked for.
-fn part_content(g: &[i64], h: &[i64], p: &[i64], q: &[i64]) -> u64
-    requires { ⌜
-        (length (now g) ≡ coefficientCount) × T (every small (now g)) × (length (now h) ≡ coefficientCount) × T (every small (now h)) ⌝ }
-    requires { ⌜
-        (length (now p) ≡ coefficientCount) × (length (now q) ≡ coefficientCount) × T (every small (now p)) × T (every small (now q)) ⌝ }
-    ensures { λ r. ⌜ PartContent (sumOf (now (g .entry)) (now (p .entry)) (now (h .entry)) (now (q .entry))) r ⌝ }
-{
-    if polynomials::content::all_zero(p) {
-        if polynomials::content::all_zero(q) {
-            return 0;
-        }
-    }
-    let mut low = [0i64; COEFFICIENTS];
-    if combinations::low_combination(&mut low, g, h, p, q) {
-        return 1;
-    }
-    polynomials::content::content(&low[..])
-}
-
-// What a combination is divided by (SCOPE 2.42), if no degree is past 15. Once the greatest common divisor is 1, the polynomials that are left
-// do not matter; the leading block, with the entry that is eliminated, comes last.
-fn combined_content(g: &[i64], h: &[i64], target: &[i64], pivot: &[i64]) -> u64
-    requires { ⌜
-        (length (now g) ≡ coefficientCount) × T (every small (now g)) × (length (now h) ≡ coefficientCount) × T (every small (now h)) ⌝ }
-    requires { ⌜
-        (length (now target) ≡ rowLength) × (length (now pivot) ≡ rowLength)
-        × T (every small (now target)) × T (every small (now pivot)) ⌝ }
-    ensures { λ r. ⌜ ContentOf
-        (combined (now (g .entry)) (now (h .entry)) (now (target .entry)) (now (pivot .entry))) r ⌝ }
-{
-    let mut content = 0;
-    let mut left = PARTS;
-    while 0 < left {
-        left -= 1;
-        let from = left * COEFFICIENTS;
-        let to = from + COEFFICIENTS;
-        let part = part_content(g, h, &target[from..to], &pivot[from..to]);
-        content = integers::gcd(part, content);
-        if content == 1 {
-            return 1;
-        }
-    }
-    content
-}
-
 // The combination of rows i and j with the entries in column c: the integer is its content, 1 for a zero result (SCOPE 13.51).
 fn combination(i: usize, j: usize, c: usize, target: &[i64], pivot: &[i64]) -> [i64; STEP]
     requires { ⌜ (i < mostEquations) × (j < mostEquations) × (c < columnCount) ⌝ }
@@ -141,7 +89,8 @@ fn combination(i: usize, j: usize, c: usize, target: &[i64], pivot: &[i64]) -> [
     let mut g = [0; COEFFICIENTS];
     let mut h = [0; COEFFICIENTS];
     reduction::step::put_multipliers_at(&mut g, &mut h, target, pivot, c);
-    let content = combined_content(&g[..], &h[..], target, pivot);
+    let made = combinations::undivided_stored(&g[..], &h[..], target, pivot);
+    let content = made.content;
     let divisor = if content == 0 { 1 } else { content };
     combining(i + 1, j + 1, divisor, &g[..], &h[..])
 }

@@ -20,11 +20,12 @@ use Rattle.roots.specs.RootSearch.{listed, held-of, roots-few}
 use Rattle.multiplicities.specs.declared.RootsWith.{RootsWith}
 use Rattle.multiplicities.specs.Counts.{rootsAlone, rootsHeld, found-alone}
 use Rattle.sides.specs.Relations.{Relisted}
-use Rattle.working_rows.specs.Worked.{refusalOf, numbersOf}
+use Rattle.working_rows.specs.Working.{numbersHeld}
+use Rattle.working_rows.specs.Worked.{refusalOf, numbersOf, numbers-worked}
 use Rattle.reduction.specs.declared.step.Progress.{Progress}
 use Rattle.reduction.specs.MultiplierSizes.{roots-small}
 use Rattle.reduction.specs.Progress.{Ready, stateOf, answerOf, listedProgress}
-use Rattle.reduction.specs.NewRows.{saved, saved-none}
+use Rattle.reduction.specs.NewRows.{saved}
 use Rattle.reduction.specs.StoreExchange.{numbersAt, length-numbersAt, small-numbersAt}
 use Rattle.log_steps.specs.Logs.{combineRows}
 use Rattle.log_steps.specs.Divisions.{divided-storable}
@@ -55,9 +56,6 @@ module _ (c : tie.Start) where
 
   abbrev g : Polynomial
   g = now (c .args .g)
-
-  abbrev numbers : List ℤ
-  numbers = now (c .args .numbers)
 
   ready : Ready rows relations p
   ready = c .pre .0 .0
@@ -167,8 +165,8 @@ list-roots-requires c κs =
       (subst Small (sym (held-is r)) (roots-small (g s) (s .pre .1 .1)), row, row-call .row-at .ensures .1),
     )
 
-answer-requires-2 : tie.Need-answer-requires-2
-answer-requires-2 c κs = search needs
+put-limited-requires : tie.Need-put-limited-requires
+put-limited-requires c κs = let s = c .before .before .before .before .before .before .before .before .before .before .before in (begun-room (begun s) (i s) (inside s), s .pre .1 .2)
 
 same-length : tie.Need-same-length
 same-length c = search needs
@@ -178,45 +176,13 @@ same-length-2 c = search needs
 
 returns-2 : tie.Need-returns-2
 returns-2 c =
-    let l = c .before .before .before .before in
+    let l = c .before .before .before .before .before in
     let s = origin l in
-    λ j d h other made.
+    let put = c .before .put-limited .ensures in
+    λ j d h other shown.
     stepped-same
-    (sym (saved-none (rows s) (i s) _ (numbersOf (new s j d h)) (λ e. c .before .if2 .taken (made .refusal-is ∙ e))))
-    (c .answer2 .ensures ∙ ap₂ (λ n k. answerOf n (listedProgress (p s) k)) (made .refusal-is) (count-is (rooted l)))
-    refl
-    (stepped l j d h other)
-
-mul-save : tie.Need-mul-save
-mul-save c =
-    let s = origin (c .before .before .before .before) in omega (arith, begun-few (begun s) (i s) (inside s))
-
-save-requires : tie.Need-save-requires
-save-requires c κs =
-    let s = origin (c .before .before .before .before) in omega (arith, begun-room (begun s) (i s) (inside s), s .pre .1 .2)
-
-answer-requires-3 : tie.Need-answer-requires-3
-answer-requires-3 c κs = search needs
-
-same-length-3 : tie.Need-same-length-3
-same-length-3 c = search needs
-
-same-length-4 : tie.Need-same-length-4
-same-length-4 c = search needs
-
-returns-3 : tie.Need-returns-3
-unfolding saved
-returns-3 c =
-    let e = c .before .before .before .before in
-    let l = e .before .before .before in
-    let s = origin l in
-    let none = e .if2 .left in
-    λ j d h other made.
-    stepped-same
-    (c .before .before .save .ensures ∙ ap (paste (rows s) (i s * rowLength) (numbers s)) (s .pre .1 .2)
-    ∙ ap (λ m. paste (rows s) (i s * rowLength) m rowLength) (made .numbers-are none)
-    ∙ ap (λ n. saved (rows s) (i s) n (numbersOf (new s j d h))) (sym none ∙ made .refusal-is))
-    (c .answer3 .ensures ∙ ap₂ (λ n k. answerOf n (listedProgress (p s) k)) (sym none ∙ made .refusal-is) (count-is (rooted l)))
+    (put .0 ∙ ap₂ (saved (rows s) (i s)) (shown .0) (ap numbersHeld (shown .1) ∙ numbers-worked (new s j d h)))
+    (put .1 ∙ ap₂ (λ n k. answerOf n (listedProgress (p s) k)) (shown .0) (count-is (rooted l)))
     refl
     (stepped l j d h other)
 
@@ -231,13 +197,7 @@ combine-allowed-spec =
     mul-row-at
     row-at-requires
     list-roots-requires
-    answer-requires-2
+    put-limited-requires
     same-length
     same-length-2
-    returns-2
-    mul-save
-    save-requires
-    answer-requires-3
-    same-length-3
-    same-length-4
-    returns-3)
+    returns-2)

@@ -11,19 +11,23 @@ use denote.Ref.{now}
 use lib.Dec.{T, ltb, eqb}
 use lib.IntN.{ℤ, pos, natAbs}
 use lib.ListN.{length, length-replicate}
+use mir.Syntax.{w64}
+use mir.Val.{toZ, ofZ}
 use mir.Facts.{toZ-ofZ}
 use Rattle.algebra.specs.Polynomials.{Polynomial, isZero}
 use Rattle.lists.specs.Tests.{every}
 use Rattle.rules.specs.Limits.{rowLength, small}
 use Rattle.rules.specs.Rows.{coefficientsOf}
-use Rattle.working_rows.specs.Worked.{numbersOf}
+use Rattle.working_rows.specs.Working.{Full}
+use Rattle.working_rows.specs.Worked.{refusalOf, workedRow, Shown}
 use Rattle.reduction.specs.declared.step.Progress.{Progress}
 use Rattle.reduction.specs.Progress.{Ready, stateOf}
-use Rattle.reduction.specs.StoreExchange.{numbersAt, small-numbersAt}
+use Rattle.reduction.specs.NewRows.{full-worked}
+use Rattle.reduction.specs.StoreExchange.{numbersAt, length-numbersAt, small-numbersAt}
 use Rattle.log_steps.specs.Logs.{combining, allowed, dividesAll}
-use Rattle.log_steps.specs.Divisions.{combined}
+use Rattle.log_steps.specs.Divisions.{combined, divided-storable}
 use Rattle.log_steps.specs.StoreChanges.{Begun, begun-few, begun-room, two-places, stepped-same, step-refused, combining-changed}
-use Rattle.log_steps.specs.StoreCombinations.{newRow, Made, judged, judged-exact, exact-judged, inexact-judged, absent-combined}
+use Rattle.log_steps.specs.StoreCombinations.{newRow, judgedRow, judged-exact, exact-judged, inexact-judged, absent-combined}
 use Rattle.log_steps.specs.StoreCombinations.{combine-allowed}
 use Rattle.log_steps.proofs.combining.combine_rows.Statement.{statement}
 use Rattle.log_steps.proofs.combining.combine_rows.Tie as tie
@@ -88,9 +92,9 @@ module _ (c : tie.Else1) where
       ∙ ap (λ t. t && (not (isZero (g start)) && dividesAll (d start) whole)) tested
 
 -- the new row
-module _ (c : tie.After-put-divided) where
+module _ (c : tie.After-divided-row) where
   abbrev passed : tie.Else1
-  passed = c .before .before .before .before .before .before .before
+  passed = c .before .before .before .before .before .before
 
   abbrev base : tie.Start
   base = start passed
@@ -101,29 +105,42 @@ module _ (c : tie.After-put-divided) where
   abbrev pivot : List ℤ
   pivot = numbersAt (rows base) (j base)
 
-  target-is : now (c .before .before .before .row-at .result) ≡ target
-  target-is = c .before .before .before .row-at .ensures .0
+  same-row : judgedRow (natAbs (toZ w64 (ofZ w64 (base .args .d)))) (g base) (h base)
+      (now (c .before .before .row-at .result)) (now (c .before .row-at2 .result))
+      ≡ judgedRow (d base) (g base) (h base) target pivot
+  same-row k =
+      judgedRow (natAbs (toZ-ofZ (base .fits .d) k)) (g base) (h base) (c .before .before .row-at .ensures .0 k) (c .before .row-at2 .ensures .0 k)
 
-  pivot-is : now (c .before .before .row-at2 .result) ≡ pivot
-  pivot-is = c .before .before .row-at2 .ensures .0
+  judged-is : c .divided-row .result .refusal ≡ refusalOf (judgedRow (d base) (g base) (h base) target pivot)
+  judged-is = c .divided-row .ensures .0 ∙ ap refusalOf same-row
 
-  judged-is : c .put-divided .result ≡ judged (d base) (g base) (h base) target pivot
-  judged-is =
-      c .put-divided .ensures .0
-      ∙ (λ k. judged (natAbs (toZ-ofZ (base .fits .d) k)) (g base) (h base) (target-is k) (pivot-is k))
-
-  numbers-are : c .put-divided .result ≡ 0 → c .put-divided .last .0 ≡ numbersOf (newRow (d base) (g base) (h base) target pivot)
-  numbers-are z =
-      c .put-divided .ensures .1 z
-      ∙ (λ k. numbersOf (newRow (natAbs (toZ-ofZ (base .fits .d) k)) (g base) (h base) (target-is k) (pivot-is k)))
+  row-is : c .divided-row .result .row ≡ workedRow (judgedRow (d base) (g base) (h base) target pivot)
+  row-is = c .divided-row .ensures .1 ∙ ap workedRow same-row
 
   nonzero : not (isZero (g base)) ≡ true
   nonzero =
-      let test = c .before .before .before .before .before in
+      let test = c .before .before .before .before in
       ap not (sym (test .before .is-zero .ensures) ∙ test .if2 .left)
 
-  numbers-long : length (c .put-divided .last .0) ≡ rowLength
-  numbers-long = c .put-divided .kept .0 ∙ length-replicate rowLength (pos 0)
+-- the integer divides every coefficient
+module _ (c : tie.Else3) where
+  abbrev made : tie.After-divided-row
+  made = c .before .before
+
+  abbrev origin : tie.Start
+  origin = base made
+
+  exact : dividesAll (d origin) (whole (passed made)) ≡ true
+  exact =
+      exact-judged (d origin) (g origin) (h origin) (target made) (pivot made) (λ z. c .if3 .left (judged-is made ∙ z))
+
+  new-is : judgedRow (d origin) (g origin) (h origin) (target made) (pivot made)
+      ≡ newRow (d origin) (g origin) (h origin) (target made) (pivot made)
+  new-is = judged-exact (d origin) (g origin) (h origin) (target made) (pivot made) exact
+
+  shown : Shown (made .divided-row .result .refusal) (made .divided-row .result .row)
+      (newRow (d origin) (g origin) (h origin) (target made) (pivot made))
+  shown = (judged-is made ∙ ap refusalOf new-is, row-is made ∙ ap workedRow new-is)
 
 two-rows-requires : tie.Need-two-rows-requires
 two-rows-requires c κs = search needs
@@ -177,14 +194,11 @@ row-at-requires-2 c κs =
     let e = c .before .before .before .before in
     let s = start e in begun-room (begun s) (j s) (other e)
 
-slice-aggregate-put-divided : tie.Need-slice-aggregate-put-divided
-slice-aggregate-put-divided c = search needs
-
-put-divided-requires : tie.Need-put-divided-requires
-put-divided-requires c κs =
-    let second = c .before .row-at2 .ensures in
-    let first = c .before .before .row-at .ensures in
-    let e = c .before .before .before .before .before .before in
+divided-row-requires : tie.Need-divided-row-requires
+divided-row-requires c κs =
+    let second = c .row-at2 .ensures in
+    let first = c .before .row-at .ensures in
+    let e = c .before .before .before .before .before in
     let s = start e in
     let w = ready s .rows-within in (
       rw (toZ-ofZ (s .fits .d)) (s .pre .0 .2),
@@ -195,16 +209,12 @@ put-divided-requires c κs =
           second .1,
           subst (λ l. T (every small l)) (sym (first .0)) (small-numbersAt (p s .rows) (rows s) w (i s) (inside e)),
           subst (λ l. T (every small l)) (sym (second .0)) (small-numbersAt (p s .rows) (rows s) w (j s) (other e)),
-          refl,
         ),
       ),
     )
 
 answer-requires-3 : tie.Need-answer-requires-3
 answer-requires-3 c κs = search needs
-
-same-length : tie.Need-same-length
-same-length c = search needs
 
 returns-3 : tie.Need-returns-3
 returns-3 c =
@@ -217,14 +227,18 @@ returns-3 c =
     (step-refused D (ready s) (none s) (combining (i s) (j s) (d s) (g s) (h s))
     (condition e D ∙ ap (λ t. not (isZero (g s)) && t) inexact ∙ and-false (not (isZero (g s)))))
 
-slice-aggregate-combine-allowed : tie.Need-slice-aggregate-combine-allowed
-slice-aggregate-combine-allowed c = search needs
-
 combine-allowed-requires : tie.Need-combine-allowed-requires
 combine-allowed-requires c κs =
-    let q = c .before .before .before .before .before in
+    let tested = c .before .before in
+    let q = made tested in
     let s = base q in
-    ((ready s, none s, inside (passed q)), (s .pre .1 .0, s .pre .1 .1, numbers-long q))
+    let storable = divided-storable (g s) (h s) (target q) (pivot q) (omega (arith, s .pre .1 .0))
+    (length-numbersAt (p s .rows) (rows s) (ready s .rows-within) (i s) (inside (passed q))) (d s) in
+    let full = subst Full (sym (shown tested .1)) (full-worked (newRow (d s) (g s) (h s) (target q) (pivot q)) storable) in
+    ((ready s, none s, inside (passed q)), (s .pre .1 .0, s .pre .1 .1, full))
+
+same-length : tie.Need-same-length
+same-length c = search needs
 
 same-length-2 : tie.Need-same-length-2
 same-length-2 c = search needs
@@ -235,19 +249,15 @@ same-length-3 c = search needs
 returns-4 : tie.Need-returns-4
 returns-4 c =
     let call = c .before .before in
-    let tested = call .before .before .before .before in
-    let q = tested .before .before in
+    let tested = call .before .before .before in
+    let q = made tested in
     let e = passed q in
     let s = base q in
-    let exact = exact-judged (d s) (g s) (h s) (target q) (pivot q) (λ z. tested .if3 .left (judged-is q ∙ z)) in
-    let made : Made (newRow (d s) (g s) (h s) (target q) (pivot q)) (q .put-divided .result) (q .put-divided .last .0) = record {
-      refusal-is = judged-is q ∙ judged-exact (d s) (g s) (h s) (target q) (pivot q) exact;
-      numbers-are = numbers-are q;
-    } in
     λ D.
     stepped-same refl refl
-    (combining-changed D (stateOf (rows s) (relations s) (p s)) (i s) (j s) (d s) (g s) (h s) (condition e D ∙ ap₂ _&&_ (nonzero q) exact))
-    (call .combine-allowed .ensures (j s) (d s) (h s) (other e) made)
+    (combining-changed D (stateOf (rows s) (relations s) (p s)) (i s) (j s) (d s) (g s) (h s)
+    (condition e D ∙ ap₂ _&&_ (nonzero q) (exact tested)))
+    (call .combine-allowed .ensures (j s) (d s) (h s) (other e) (shown tested))
 
 pub combine-rows-spec : {M : Type 1} → statement M
 combine-rows-spec =
@@ -263,12 +273,10 @@ combine-rows-spec =
     row-at-requires
     mul-row-at-2
     row-at-requires-2
-    slice-aggregate-put-divided
-    put-divided-requires
+    divided-row-requires
     answer-requires-3
     same-length
     returns-3
-    slice-aggregate-combine-allowed
     combine-allowed-requires
     same-length-2
     same-length-3

@@ -17,11 +17,12 @@ use Rattle.rules.specs.Limits.{rowLength, small}
 use Rattle.rules.specs.Rows.{Row, entry, combine, lowDegrees}
 use Rattle.rules.specs.Stores.{rowOf}
 use Rattle.rules.specs.Elimination.{Multipliers, multipliers}
+use Rattle.combinations.specs.Undivided.{StoredFit}
 use Rattle.reduction.specs.MultiplierSizes.{Sixteen, multipliers-fit}
 use Rattle.reduction.specs.StoreExchange.{length-entry, small-entry}
 use Rattle.own_logs.specs.Own.{changeNumbers, divisorOf}
 use Rattle.own_logs.specs.LineLaws.{divisor-zero, divisor-some}
-use Rattle.own_logs.specs.Contents.{ContentOf}
+use Rattle.own_logs.specs.Contents.{ContentOf, content-undivided}
 use Rattle.own_logs.proofs.lines.combination.Statement.{statement}
 use Rattle.own_logs.proofs.lines.combination.Tie as tie
 
@@ -74,18 +75,36 @@ module _ (c : tie.After-put-multipliers-at) where
   h-fits : Sixteen h
   h-fits = subst Sixteen (sym h-is) (fits start .1)
 
+  stored : StoredFit g h (target start) (pivot start)
+  stored =
+      let rows = start .pre .1 .0 in record {
+        g-long = g-fits .0;
+        g-small = g-fits .1;
+        h-long = h-fits .0;
+        h-small = h-fits .1;
+        target-long = rows .0;
+        target-small = rows .2;
+        pivot-long = rows .1;
+        pivot-small = rows .3;
+      }
+
 -- the content
-module _ (c : tie.After-combined-content) where
+module _ (c : tie.After-undivided-stored) where
   abbrev multiplied : tie.After-put-multipliers-at
   multiplied = c .before .before .before .before .before
 
   abbrev base : tie.Start
   base = start multiplied
 
-  found : ContentOf (result base) (c .combined-content .result)
+  abbrev divided-by : ℕ
+  divided-by = c .undivided-stored .result .content
+
+  found : ContentOf (result base) divided-by
   found =
-      subst₂ (λ g h. ContentOf (combine g h (rowOf (target base)) (rowOf (pivot base))) (c .combined-content .result)) (g-is multiplied)
-      (h-is multiplied) (c .combined-content .ensures)
+      subst₂ (λ g h. ContentOf (combine g h (rowOf (target base)) (rowOf (pivot base))) divided-by) (g-is multiplied)
+      (h-is multiplied)
+      (subst (λ m. ContentOf (combine (g multiplied) (h multiplied) (rowOf (target base)) (rowOf (pivot base))) (m .content))
+      (sym (c .undivided-stored .ensures)) (content-undivided (stored multiplied)))
 
 -- the integer
 module _ (c : tie.Joined1) where
@@ -113,16 +132,14 @@ put-multipliers-at-requires c κs =
       ((pre .0 .2, omega (arith, rows .0), omega (arith, rows .1)), ((rows .2, rows .3), pre .1 .1)),
     )
 
-slice-aggregate-combined-content : tie.Need-slice-aggregate-combined-content
-slice-aggregate-combined-content c = search needs
+slice-aggregate-undivided-stored : tie.Need-slice-aggregate-undivided-stored
+slice-aggregate-undivided-stored c = search needs
 
-slice-aggregate-combined-content-2 : tie.Need-slice-aggregate-combined-content-2
-slice-aggregate-combined-content-2 c = search needs
+slice-aggregate-undivided-stored-2 : tie.Need-slice-aggregate-undivided-stored-2
+slice-aggregate-undivided-stored-2 c = search needs
 
-combined-content-requires : tie.Need-combined-content-requires
-combined-content-requires c κs =
-    let e = c .before .before .before .before in
-    ((g-fits e .0, g-fits e .1, h-fits e .0, h-fits e .1), start e .pre .1 .0)
+undivided-stored-requires : tie.Need-undivided-stored-requires
+undivided-stored-requires c κs = stored (c .before .before .before .before)
 
 add-combining : tie.Need-add-combining
 add-combining c = search needs
@@ -168,9 +185,9 @@ combination-spec =
     slice-aggregate-put-multipliers-at
     slice-aggregate-put-multipliers-at-2
     put-multipliers-at-requires
-    slice-aggregate-combined-content
-    slice-aggregate-combined-content-2
-    combined-content-requires
+    slice-aggregate-undivided-stored
+    slice-aggregate-undivided-stored-2
+    undivided-stored-requires
     add-combining
     add-combining-2
     slice-aggregate-combining
