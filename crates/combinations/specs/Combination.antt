@@ -2,7 +2,6 @@
 --
 -- Main definitions
 --   combinations, lowNumbers   the combinations of the polynomials of two lists of numbers, and the numbers of their low parts
---   Trimmed            the trimmed multipliers and the trimmed parts of two lists at one place
 --   few                most polynomials have no more coefficients
 --   bothWithin n g h   all coefficients of both past the first n are zero
 --   trim p             the coefficients of p up to the highest nonzero one
@@ -19,11 +18,10 @@
 --   past-highest       what is zero past the highest power that a combination can have
 --   high-free, high-found   the test of the coefficients past power 15
 --   combination-at, polynomials-combination, length-combinations   the polynomials of a combination of rows
---   low-degrees, trimmed-high   which of them have a degree past 15
---   length-low, low-part, trimmed-low   the numbers of the low parts, and each part
+--   low-degrees           which of them have a degree past 15
+--   length-low, low-part   the numbers of the low parts, and each part
 --   shortened-combinations   combinations by shortened multipliers
---   zero-part, zero-low   where both parts are zero, so is that of the combination
---   trimmed-fit        what is trimmed stays within the limits
+--   zero-part          where both parts are zero, so is that of the combination
 --   cut-low, StoreRow-cut   the low parts are the cut of the combination
 --   combined-held      a combination within the limits is held by its numbers
 --   numbers-below      the numbers of the low parts are in the range of an i64
@@ -401,11 +399,6 @@ module _ (k : ℕ) (g h : Polynomial) (t u : List ℤ) where
     pub zero-part : T (isZero (coefficientsAt (lowNumbers k g h t u) e))
     zero-part = subst (λ r. T (isZero r)) (sym (low-part e l)) (lowPart-zero (entryAt e) sum-zero)
 
-    pub zero-low : isLow (getD (combinations k g h t u) e []) ≡ true
-    zero-low =
-        ap isLow (combination-at e l)
-        ∙ true-of _ (high-zero (entryAt e) .1 (λ i h. isZero-coeff (entryAt e) sum-zero i))
-
 -- ---- combinations of rows
 
 columns : (l : List ℤ) → All (λ b. length b ≡ columnCount) (rowOf l .blocks)
@@ -472,49 +465,3 @@ module _ (g h : Polynomial) (t u : List ℤ) where
   numbers-below k s =
       low-below g h (s .0) (s .1) (s .2) (s .3) (parts coefficientCount k t) (parts coefficientCount k u) (small-parts k t (s .4))
       (small-parts k u (s .5))
-
--- ---- the polynomial at place e, made of trimmed parts
-
--- Multipliers g and h, and the parts of t and u at place e of k, all shortened; n is the width of a part as the code computes it.
-pub record Trimmed (k : ℕ) (g h : Polynomial) (t u : List ℤ) (e n : ℕ) (a p b q : Polynomial) : Type 0 where
-  pub below : e < k
-  pub width : n ≡ coefficientCount
-  pub at-g : Shortened a g
-  pub at-h : Shortened b h
-  pub at-t : Shortened p (take n (drop (e * coefficientCount) t))
-  pub at-u : Shortened q (take n (drop (e * coefficientCount) u))
-
-module _ {k : ℕ} {g h : Polynomial} {t u : List ℤ} {e n : ℕ} {a p b q : Polynomial} (made : Trimmed k g h t u e n a p b q) where
-  trimmed-same : Same (add (mul a p) (mul b q)) (entryAt k g h t u e)
-  trimmed-same i =
-      combined-same a g p (take n (drop (e * coefficientCount) t)) b h q (take n (drop (e * coefficientCount) u))
-      (made .at-g .same) (made .at-t .same) (made .at-h .same) (made .at-u .same) i
-      ∙ ap (λ m. coeff (add (mul g (take m (drop (e * coefficientCount) t))) (mul h (take m (drop (e * coefficientCount) u)))) i)
-      (made .width)
-
-  pub trimmed-high : isZero (drop coefficientCount (add (mul a p) (mul b q)))
-      ≡ isZero (drop coefficientCount (getD (combinations k g h t u) e []))
-  trimmed-high =
-      high-same (add (mul a p) (mul b q)) (entryAt k g h t u e) trimmed-same
-      ∙ ap (λ r. isZero (drop coefficientCount r)) (sym (combination-at k g h t u e (made .below)))
-
-  pub trimmed-low : lowPart (add (mul a p) (mul b q)) ≡ coefficientsAt (lowNumbers k g h t u) e
-  trimmed-low = lowPart-same (add (mul a p) (mul b q)) (entryAt k g h t u e) trimmed-same ∙ sym (low-part k g h t u e (made .below))
-
-  pub trimmed-fit : (length g ≡ coefficientCount) × T (every small g) × (length h ≡ coefficientCount) × T (every small h)
-      → (e * coefficientCount + coefficientCount ≤ length t) × (e * coefficientCount + coefficientCount ≤ length u)
-      → T (every small t) × T (every small u)
-      → Counted a × Counted p × Counted b × Counted q
-  trimmed-fit m l r =
-      let part : (v : List ℤ) → e * coefficientCount + coefficientCount ≤ length v → T (every small v)
-      → Counted (take n (drop (e * coefficientCount) v))
-      = λ v long s. (
-        rw (length-take, length-drop) (omega (arith, made .width)),
-        rw (length-take, length-drop) (omega (arith, made .width)),
-        every-part small (e * coefficientCount) n v s,
-      ) in (
-        shortened-fits a g (made .at-g) (omega arith, omega arith, m .1),
-        shortened-fits p _ (made .at-t) (part t (l .0) (r .0)),
-        shortened-fits b h (made .at-h) (omega arith, omega arith, m .3),
-        shortened-fits q _ (made .at-u) (part u (l .1) (r .1)),
-      )
