@@ -31,7 +31,7 @@ load-requires c κs =
     let long = s .pre .target-long in (
       omega (arith, long),
       c .before .before .width .ensures ∙ width-left (now (s .args .target)) long
-      ∙ ap (λ l. width (rowOf l)) (sym (take-all rowLength (now (s .args .target)) (le-of-eq long))),
+          ∙ ap (λ l. width (rowOf l)) (sym (take-all rowLength (now (s .args .target)) (le-of-eq long))),
     )
 
 undivided-requires : tie.Need-undivided-requires
