@@ -36,14 +36,14 @@ use native.Mathlib.Decide.{decLe, decLt}
 use lib.Bits.{bitOr}
 use lib.Dec.{T, lit<, eqb}
 use lib.IntN.{ℤ, pos, natAbs, _+ℤ_, _*ℤ_}
-use lib.ListN.{length, take, drop, getD, length-take, length-drop, length-map}
+use lib.ListN.{length, take, drop, getD, length-take, length-map}
 use lib.Seq.{ext-getD, getD-take, length-take-le}
 use lib.Signed.{mag}
 use Rattle.algebra.specs.Integers.{natAbs-+ℤ}
 use Rattle.algebra.specs.Gcd.{content, divideBy, length-divideBy}
 use Rattle.algebra.specs.Sums.{countFrom, sumBelow, length-countFrom, getD-countFrom}
 use Rattle.algebra.specs.Polynomials.{Polynomial, coeff, isZero, degree, add, mul, isZero-cons, isZero-coeff}
-use Rattle.lists.specs.Tests.{same-test, T-&&, true-of, false-of, every, every-take, every-drop, every-part}
+use Rattle.lists.specs.Tests.{same-test, T-&&, true-of, false-of, every, every-take, every-drop}
 use Rattle.algebra.specs.Polynomials.{coeff-isZero}
 use Rattle.algebra.specs.Polynomials.{isZero-add, isZero-mul-right, length-add, length-scale}
 use Rattle.algebra.specs.Coefficients.{coeff-add, coeff-mul, coeff-take, coeff-drop, coeff-past-length, coeff-past-degree}
@@ -63,7 +63,6 @@ use Rattle.rules.specs.Elimination.{within, limitDegrees}
 use Rattle.rules.specs.Layout.{coefficientsAt}
 use Rattle.stores.specs.Flat.{partCount, partsIn, polynomialsOf, polynomials-rowOf, polynomials-mapRow, polynomials-combine}
 use Rattle.stores.specs.Flat.{numbers-mapRow, length-blocks}
-use Rattle.stores.specs.OverZeros.{front}
 use Rattle.combinations.specs.Primitive.{isLow, lowDegrees-every, degrees-within}
 use Rattle.working_rows.specs.Worked.{Held, held, store-row}
 

@@ -11,7 +11,7 @@
 --   beyond-made, whole-made   a combination of shortened polynomials, past degree 15 or not
 --   front-fits, sums-made     that of polynomials of few coefficients: behind the sums there are zeros
 --   parts-start, parts-next, parts-beyond, parts-end   before the first polynomial, one more, one past degree 15, and after the last
---   parts-long, part-is, part-fits   the list has its length, and the next polynomial is as it was and fits
+--   part-is, part-fits   the next polynomial is as it was and fits
 --   part-zero           a polynomial past the place from which on a list is zero
 --   shortened-made      polynomials that are combined by shortened multipliers
 use mathlib.Core.Path.{_≡_, refl, sym, _∙_, ap, ap₂, subst}
@@ -35,7 +35,7 @@ use Rattle.algebra.specs.Polynomials.{isZero-append, isZero-add, isZero-mul-rig
 use Rattle.algebra.specs.Coefficients.{coeff-drop, coeff-past-length}
 use Rattle.rules.specs.Limits.{small, coefficientCount}
 use Rattle.rules.specs.Layout.{coefficientsAt}
-use Rattle.working_rows.specs.Shifting.{overFront, length-over, over-behind}
+use Rattle.working_rows.specs.Shifting.{overFront, over-behind}
 use Rattle.combinations.specs.declared.Made.{Made}
 use Rattle.combinations.specs.Primitive.{isLow, content-take}
 use Rattle.combinations.specs.Combination.{few, bothWithin, Counted, Shortened, shortened-front, shortened-fits, combined-same}
@@ -296,10 +296,6 @@ module _ {count : ℕ} {g h : Polynomial} {target pivot : List ℤ} (fits : Part
   module _ {d₀ : ℕ} {t₀ : Bool} {place : List ℤ} {d : ℕ} {t : Bool} {e : ℕ} (begun : PartsBegun g h target pivot d₀ t₀ place d t e) where
     abbrev k : ℕ
     k = e * coefficientCount
-
-    pub parts-long : length place ≡ length target
-    parts-long =
-        ap length (begun .place-is) ∙ length-over numbers target k (omega (arith, numbers-long, begun .inside)) (begun .inside)
 
     module _ (left : e < n) where
       room : k + coefficientCount ≤ length target

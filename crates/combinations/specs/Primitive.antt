@@ -6,8 +6,7 @@
 --
 -- Main statements
 --   primitive-divided, primitive-kept   what the numbers become, by their content
---   primitive-small       numbers within ±C stay so
---   divided-zeros, divided-front, divided-whole, divided-next   the division of zeros, of a front, of all, and part by part
+--   divided-zeros, divided-front, divided-next   the division of zeros, of a front, and part by part
 --   content-take          zeros at the end do not change the content
 --   content-below         the content is at most as large as the numbers
 --   degree-kept           the division does not change which polynomials have degrees up to 15
@@ -17,14 +16,14 @@
 --   degrees-within        a row within both limits is within that of the coefficients
 use mathlib.Core.Path.{_≡_, refl, sym, _∙_, ap, ap₂, subst}
 use mathlib.Core.Bool.{Bool, true, false, _&&_, cond}
-use mathlib.Core.List.{List, [], _∷_, _++_, map, flatten, append-nil, append-assoc, map-append}
+use mathlib.Core.List.{List, [], _∷_, _++_, map, flatten, append-assoc, map-append}
 use Prim.Native.Nat.{ℕ, zero, suc, _+_, _≤_, _<_, _∣_}
 use native.Mathlib.Nat.{zero-lt-suc, zero-div, dvd-refl, dvd-trans, le-trans}
 use native.Mathlib.Omega.{arith}
 use lib.Dec.{T, le→leb, leb→le}
 use lib.IntN.{ℤ, pos, natAbs}
-use lib.ListN.{length, take, drop, take-append-drop, drop-of-length-le}
-use lib.Seq.{take-all, take-add, take-at, drop-at, drop-drop, length-take-le}
+use lib.ListN.{length, take, drop, take-append-drop}
+use lib.Seq.{take-add, take-at, drop-at, drop-drop, length-take-le}
 use lib.Signed.{quotZ}
 use Rattle.algebra.specs.Gcd.{gcd, content, divideBy, gcd-zero, gcd-divides-left, gcd-divides-right, gcd-le-right, content-append}
 use Rattle.algebra.specs.Division.{quotZ-le}
@@ -33,13 +32,12 @@ use Rattle.algebra.specs.Gcd.{dividesAll-of-content, isZero-divideBy, divideBy-
 use Rattle.algebra.specs.Polynomials.{Polynomial, isZero, isZero-cons}
 use Rattle.lists.specs.Tests.{T-&&, every, every-append, every-flatten}
 use Rattle.polynomials.specs.Content.{Below}
-use Rattle.rules.specs.Rows.{Row, mapRow, coefficientsOf, primitive, lowDegrees, cut, contradicts, smallRow}
+use Rattle.rules.specs.Rows.{Row, mapRow, coefficientsOf, primitive, lowDegrees, cut}
 use Rattle.lists.specs.Images.{map-take, map-drop}
 use Rattle.rules.specs.Limits.{bound, small, coefficientCount}
 use Rattle.rules.specs.Elimination.{within, beyond, limitCoefficients, limitDegrees, consistent}
 use Rattle.stores.specs.Flat.{polynomialsOf, polynomials-mapRow, numbers-polynomials, numbers-mapRow}
 use Rattle.lists.specs.Joined.{flatten-map}
-use Rattle.working_rows.specs.Worked.{refusalOf}
 
 -- The numbers divided by d, or as they are if d is 0.
 abbrev pub divideUnlessZero : ℕ → List ℤ → List ℤ
@@ -66,14 +64,6 @@ divided-small d (a ∷ l) h =
     let both = T-&& (small a) (every small l) .0 h in
     T-&& (small (quotZ a (pos d))) (every small (divideBy d l)) .1
     (le→leb (natAbs (quotZ a (pos d))) bound (le-trans (quotZ-le a (pos d)) (leb→le (natAbs a) bound (both .0))), divided-small d l (both .1))
-
-pub primitive-small : (l : List ℤ) → T (every small l) → T (every small (primitiveNumbers l))
-unfolding primitiveNumbers
-primitive-small l h = go (content l)
-  where
-    go : (d : ℕ) → T (every small (divideUnlessZero d l))
-    go zero = h
-    go (suc d) = divided-small (suc d) l h
 
 pub primitive-kept : (l : List ℤ) → content l ≤ 1 → primitiveNumbers l ≡ l
 unfolding primitiveNumbers
@@ -106,10 +96,6 @@ pub divided-front : (d : ℕ) (l : List ℤ) (k : ℕ) → T (isZero (drop k l))
 divided-front d l k z =
     ap (λ r. divideBy d (take k l) ++ r) (sym (divided-zeros d (drop k l) z)) ∙ sym (divided-append d (take k l) (drop k l))
     ∙ ap (divideBy d) (take-append-drop k l)
-
-pub divided-whole : (d : ℕ) (l : List ℤ) (k : ℕ) → length l ≤ k → dividedTo d l k ≡ divideBy d l
-divided-whole d l k h =
-    ap₂ (λ x y. divideBy d x ++ y) (take-all k l h) (drop-of-length-le l h) ∙ append-nil (divideBy d l)
 
 -- The next w numbers are divided where they stand.
 module _ (d : ℕ) (l : List ℤ) (k w : ℕ) (inside : k ≤ length l) where
@@ -256,16 +242,3 @@ degrees-within q r e = go (lowDegrees q) e
     go : (t : Bool) → cond t (limitCoefficients (cut q)) (beyond 7) ≡ within r → limitCoefficients (cut q) ≡ within r
     go true h = h
     go false h = let impossible : _≡_ {A = ℕ} 0 1 = cc in absurd (omega arith)
-
--- A row that breaks no limit is the row itself.
-pub consistent-zero : (q : Row) → refusalOf (consistent (limitCoefficients q)) ≡ 0 → consistent (limitCoefficients q) ≡ within q
-unfolding refusalOf consistent limitCoefficients
-consistent-zero q e = go (smallRow q) e
-  where
-    tested : (u : Bool) → refusalOf (cond u (beyond 10) (within q)) ≡ 0 → cond u (beyond 10) (within q) ≡ within q
-    tested true z = absurd (omega (arith, z))
-    tested false z = refl
-
-    go : (t : Bool) → refusalOf (consistent (cond t (within q) (beyond 8))) ≡ 0 → consistent (cond t (within q) (beyond 8)) ≡ within q
-    go true z = tested (contradicts q) z
-    go false z = absurd (omega (arith, z))

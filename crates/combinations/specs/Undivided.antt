@@ -22,10 +22,10 @@ use mathlib.Core.Path.{_≡_, refl, sym, _∙_, ap, ap₂, subst}
 use mathlib.Core.Bool.{Bool, true, false, not, _&&_, and-false, cond, true≢false}
 use mathlib.Core.List.{List, [], _∷_, _++_, map, flatten, zipWith, map-append}
 use Prim.Native.Nat.{ℕ, zero, suc, _+_, _*_, _-_, _/_, _^_, _≤_, _<_, _∣_, max, zero-le}
-use native.Mathlib.Nat.{le-of-eq, le-refl, dvd-refl, dvd-trans}
+use native.Mathlib.Nat.{le-of-eq, le-refl, dvd-refl}
 use native.Mathlib.Omega.{arith}
 use borrow.Author.Tests.{not-true, not-false}
-use lib.Dec.{T, eqb, eqb·suc-zero, lt→ltb}
+use lib.Dec.{T, eqb, lt→ltb}
 use lib.IntN.{ℤ, pos, natAbs}
 use lib.ListN.{length, take, drop, getD, replicate, length-drop, take-append-drop, drop-of-length-le}
 use lib.Seq.{take-at, take-all, drop-at, getD-drop}
@@ -35,7 +35,6 @@ use Rattle.lists.specs.Joined.{flatten-append}
 use Rattle.lists.specs.Parts.{parts, parts-length, parts-append, parts-take}
 use Rattle.lists.specs.Tests.{T-&&, true-of, true-T, every, every-append, every-take, every-drop}
 use Rattle.algebra.specs.Gcd.{gcd, content, divideBy, gcd-comm, gcd-zero, content-append, isZero-divideBy, dividesAll-of-content}
-use Rattle.algebra.specs.Gcd.{length-divideBy, gcd-divides-left, gcd-divides-right}
 use Rattle.algebra.specs.Polynomials.{Polynomial, isZero, isZero-append, add, mul, coeff-isZero}
 use Rattle.algebra.specs.Coefficients.{coeff-drop, coeff-past-length}
 use Rattle.polynomials.specs.Content.{Below}

@@ -8,10 +8,10 @@
 use Prim.Native.Nat.{ℕ, _^_, _<_}
 use native.Mathlib.Omega.{arith}
 use mathlib.Core.Path.{_≡_, refl, sym, _∙_, ap, subst}
-use mathlib.Core.Bool.{Bool, true, false, not, cond}
+use mathlib.Core.Bool.{Bool, true, false, not}
 use mathlib.Core.List.{List}
 use lib.IntN.{ℤ}
-use Rattle.lists.specs.Tests.{every, true-T}
+use Rattle.lists.specs.Tests.{true-T}
 use Rattle.algebra.specs.Gcd.{content}
 use Rattle.algebra.specs.Polynomials.{Polynomial}
 use Rattle.polynomials.specs.Content.{Below}

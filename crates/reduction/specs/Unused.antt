@@ -7,7 +7,7 @@
 --   unused-narrowed         the exchange of rule 2 keeps them zero
 --   unused-going            so does a step that goes on
 --   unused-none, none-unused   with four columns and five blocks in use a store has no such place
---   unused-row, unused-width, narrowed-unused, unused-after   the same on the stores of a run
+--   unused-row, unused-width, unused-after   the same on the stores of a run
 use Prim.Native.Nat.{ℕ, _+_, _≤_, _<_}
 use native.Mathlib.Omega.{arith}
 use mathlib.Core.Path.{_≡_, sym, _∙_, ap₂, subst}
@@ -15,7 +15,7 @@ use mathlib.Core.Bool.{false}
 use mathlib.Core.List.{List, [], _∷_, map}
 use lib.Dec.{T}
 use lib.IntN.{ℤ}
-use lib.ListN.{length, take, set}
+use lib.ListN.{length, set}
 use lib.Seq.{length-take-le}
 use Rattle.lists.specs.Everywhere.{All, all-getD, all-set}
 use Rattle.lists.specs.Places.{without, all-without}
@@ -23,7 +23,7 @@ use Rattle.lists.specs.Parts.{parts}
 use Rattle.lists.specs.Tests.{T-&&, every, all-of-every, every-of-all}
 use Rattle.rules.specs.Limits.{columnCount, mostSpan, rowLength}
 use Rattle.rules.specs.Rows.{Row, noRow, shiftUp, width, zeroBlock}
-use Rattle.rules.specs.Elimination.{Side, State, Outcome, going, refused, within, limitDegrees, limitCoefficients, rowAt, putRow}
+use Rattle.rules.specs.Elimination.{Side, State, Outcome, going, refused, rowAt, putRow}
 use Rattle.rules.specs.Elimination.{listRelations, settle, countShift, dropRow, narrowFirst, step}
 use Rattle.rules.specs.Stores.{unusedZero, rowOf, rowsOf}
 use Rattle.rules.specs.Layout.{length-rowsOf}
@@ -31,13 +31,13 @@ use Rattle.theory.specs.Cells.{width-unused}
 use Rattle.theory.specs.Combine.{combine-unused}
 use Rattle.theory.specs.ShiftUp.{shiftUp-unused}
 use Rattle.theory.specs.Steps.{Stepped, combined, settled, shifted, dropped, StepView, over-limit, inconsistent, goes-on, step-view}
-use Rattle.theory.specs.Steps.{current, exchanged, combination, multipliersFor, limitCoefficients-within}
+use Rattle.theory.specs.Steps.{current, exchanged, multipliersFor, limitCoefficients-within}
 use Rattle.theory.specs.Steps.{length-narrowFirst, narrowFirst-all, going≢refused, going-injective}
 use Rattle.theory.specs.Triangular.{combined-zero}
 use Rattle.reduction.specs.declared.step.Progress.{Progress}
 use Rattle.reduction.specs.declared.step.Outcome as Answer
 use Rattle.reduction.specs.Progress.{Ready, Reached, stateOf, outcomeOf}
-use Rattle.reduction.specs.StoreExchange.{numbersAt, row-of, narrowed, narrowed-state}
+use Rattle.reduction.specs.StoreExchange.{numbersAt, row-of}
 
 abbrev pub Unused : ℕ → ℕ → State → Type 0
 Unused m D s = T (every (unusedZero m D) (s .rows))
@@ -124,11 +124,6 @@ module _ (m D : ℕ) {rows relations : List ℤ} {p : Progress} (ready : Ready r
 
   pub unused-width : (i : ℕ) → i < p .rows → Unused m D s → width (rowOf (numbersAt rows i)) ≤ D + 1
   unused-width i h u = omega (arith, width-unused m D (rowOf (numbersAt rows i)) (unused-row i h u))
-
-  pub narrowed-unused : (i j : ℕ) → i < p .rows → j < p .rows → Unused m D s → Unused m D (stateOf (narrowed rows i j) relations p)
-  narrowed-unused i j h k u =
-      subst (Unused m D) (narrowed-state rows relations p (ready .rows-within) i j h k)
-      (unused-narrowed m D s i j (omega (arith, rows-length)) (omega (arith, rows-length)) u)
 
   pub unused-after : (side : Side) {n most : ℕ} {rows' relations' : List ℤ} {o : Answer.Outcome} → p .settled < p .rows
       → Reached n rows relations rows' relations' most o (step side s) → o .done ≡ false → o .refusal ≡ 0

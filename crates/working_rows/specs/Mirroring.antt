@@ -17,7 +17,7 @@
 --   alternated-none, alternated-next, alternated-all   no sign changed, that of one odd place more, all
 --   exchanged-none, exchanged-next                     no number exchanged, one of each part more
 --   turned-none, turned-next, turned-all               no block exchanged, one pair more, all
---   numbers-mirrored, full-mirrored, small-mirrored, held-mirrored, width-mirrored
+--   numbers-mirrored, full-mirrored, small-mirrored, held-mirrored
 --                       the mirror of a working row: its numbers, what they hold, and its width
 --   turned-left, mirrored-side   signs changed and then blocks turned: the mirror's left part; its right side
 use Prim.Native.Nat.{ℕ, zero, suc, _+_, _*_, _-_, _/_, _%_, _≤_, _<_, zero-le}
@@ -38,7 +38,7 @@ use Rattle.algebra.specs.Integers.{natAbs-negℤ}
 use Rattle.algebra.specs.Polynomials.{coeff, mirror, length-mirror}
 use Rattle.algebra.specs.Coefficients.{alternate, coeff-mirror}
 use Rattle.rules.specs.Limits.{entriesLength, rowLength, small, coefficientCount, columnCount, mostSpan, blockCount, blockLength}
-use Rattle.rules.specs.Rows.{Block, Row, coefficientsOf, mapRow, smallRow, width, mirrorRow}
+use Rattle.rules.specs.Rows.{Block, Row, coefficientsOf, mapRow, smallRow, mirrorRow}
 use Rattle.lists.specs.Everywhere.{All, all-getD, getD-all, map-keeps}
 use Rattle.lists.specs.Tests.{T-&&, every, every-append, every-part, every-from-at, every-from-all}
 use Rattle.rules.specs.Stores.{rowOf, Shaped, StoreRow}
@@ -47,7 +47,7 @@ use Rattle.stores.specs.Flat.{length-blocks}
 use Rattle.lists.specs.Images.{getD-reverse}
 use Rattle.working_rows.specs.declared.WorkingRow.{WorkingRow}
 use Rattle.working_rows.specs.Working.{leftPart, workingOf, numbersHeld, Full, full-of, length-held}
-use Rattle.working_rows.specs.Working.{right-held, width-held}
+use Rattle.working_rows.specs.Working.{right-held}
 
 -- Block i of the mirror comes from block D - i; blocks past the D + 1 in use stay.
 unfoldable pub mirrorBlock : ℕ → ℕ → ℕ
@@ -499,10 +499,6 @@ module _ (D : ℕ) (w : WorkingRow) (few : D ≤ mostSpan) (full : Full w) where
 
   pub held-mirrored : rowOf (numbersHeld (mirroredOf D w)) ≡ m
   held-mirrored = ap rowOf numbers-mirrored ∙ rowOf-mirrorRow D (numbersHeld w) few (length-held w full)
-
-  pub width-mirrored : mirroredOf D w .width ≡ width m
-  width-mirrored =
-      sym (width-held (leftPart m) (m .right) (full-mirrored .entries-long)) ∙ ap width held-mirrored
 
   -- The signs first, and then the blocks.
   pub turned-left : (after : List ℤ) → Turned D (mirror (w .entries)) after → after ≡ leftPart m

@@ -1,14 +1,13 @@
-// The limit of the coefficients of a new row, and the test behind it of a row that a combination has made.
+// The limit of the coefficients of a new row.
 use crate::WorkingRow;
 use polynomials::lengths::COEFFICIENTS;
 use stores::lengths::ENTRIES;
 ghost use mathlib.Core.Path.{_≡_};
-ghost use lib.ListN.{length};
 ghost use Rattle.lists.specs.Tests.{every};
-ghost use Rattle.rules.specs.Limits.{rowLength, small};
+ghost use Rattle.rules.specs.Limits.{small};
 ghost use Rattle.rules.specs.Rows as Rows;
 ghost use Rattle.rules.specs.Stores.{rowOf};
-ghost use Rattle.rules.specs.Elimination.{limitCoefficients, consistent, within, beyond};
+ghost use Rattle.rules.specs.Elimination.{limitCoefficients, beyond};
 ghost use Rattle.working_rows.specs.Working.{numbersHeld, Full};
 ghost use Rattle.working_rows.specs.Worked.{refusalOf, workedRow};
 
@@ -41,30 +40,4 @@ pub fn limited(row: WorkingRow, within: bool) -> Worked
         return broken(8);
     }
     Worked { refusal: 0, row }
-}
-
-// The numbers of a row within ±C whose left part alone is zero are refused with 10 (SCOPE 2.46). Without a right side there is none.
-pub fn contradiction(numbers: &[i64]) -> u8
-    requires { ⌜ length (now numbers) ≡ rowLength ⌝ }
-    ensures { λ r. ⌜ r ≡ refusalOf (consistent (within (rowOf (now (numbers .entry))))) ⌝ }
-{
-    if polynomials::content::is_zero(&numbers[ENTRIES..]) {
-        return 0;
-    }
-    if 0 < crate::entries::width(&numbers[..ENTRIES]) {
-        return 0;
-    }
-    10
-}
-
-// The number of the limit that the numbers of a new row break, or 0: a coefficient past ±C, on the right side too, is 8 (SCOPE 2.44), and
-// behind it a row whose left part alone is zero 10.
-pub fn refusal(numbers: &[i64]) -> u8
-    requires { ⌜ length (now numbers) ≡ rowLength ⌝ }
-    ensures { λ r. ⌜ r ≡ refusalOf (consistent (limitCoefficients (rowOf (now (numbers .entry))))) ⌝ }
-{
-    if !stores::checks::all_small(numbers) {
-        return 8;
-    }
-    contradiction(numbers)
 }

@@ -9,14 +9,13 @@ use borrow.Author.Needs.{needs}
 use borrow.Author.Tests.{not-true, not-false}
 use denote.Ref.{now}
 use lib.Dec.{T, ltb, eqb}
-use lib.IntN.{ℤ, pos, natAbs}
-use lib.ListN.{length, length-replicate}
+use lib.IntN.{ℤ, natAbs}
 use mir.Syntax.{w64}
 use mir.Val.{toZ, ofZ}
 use mir.Facts.{toZ-ofZ}
 use Rattle.algebra.specs.Polynomials.{Polynomial, isZero}
 use Rattle.lists.specs.Tests.{every}
-use Rattle.rules.specs.Limits.{rowLength, small}
+use Rattle.rules.specs.Limits.{small}
 use Rattle.rules.specs.Rows.{coefficientsOf}
 use Rattle.working_rows.specs.Working.{Full}
 use Rattle.working_rows.specs.Worked.{refusalOf, workedRow, Shown}
@@ -109,7 +108,8 @@ module _ (c : tie.After-divided-row) where
       (now (c .before .before .row-at .result)) (now (c .before .row-at2 .result))
       ≡ judgedRow (d base) (g base) (h base) target pivot
   same-row k =
-      judgedRow (natAbs (toZ-ofZ (base .fits .d) k)) (g base) (h base) (c .before .before .row-at .ensures .0 k) (c .before .row-at2 .ensures .0 k)
+      judgedRow (natAbs (toZ-ofZ (base .fits .d) k)) (g base) (h base) (c .before .before .row-at .ensures .0 k)
+      (c .before .row-at2 .ensures .0 k)
 
   judged-is : c .divided-row .result .refusal ≡ refusalOf (judgedRow (d base) (g base) (h base) target pivot)
   judged-is = c .divided-row .ensures .0 ∙ ap refusalOf same-row

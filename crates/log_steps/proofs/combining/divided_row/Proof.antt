@@ -1,13 +1,12 @@
 -- `log_steps::combining::divided_row` meets its contract.
 -- Assumes nothing.
-use mathlib.Core.Path.{_≡_, refl, sym, _∙_, ap, ap₂, subst}
+use mathlib.Core.Path.{_≡_, refl, sym, _∙_, ap, subst}
 use mathlib.Core.Bool.{Bool, true, false, not}
 use mathlib.Core.List.{List}
 use Prim.Native.Nat.{ℕ, _+_, _^_, _<_}
 use native.Mathlib.Omega.{arith}
 use borrow.Author.Tests.{not-true, not-false}
 use denote.Ref.{now}
-use lib.Dec.{T}
 use lib.IntN.{ℤ, natAbs}
 use lib.ListN.{length}
 use lib.Seq.{getD-drop}
@@ -16,10 +15,10 @@ use mir.Val.{toZ, ofZ}
 use mir.Facts.{toZ-ofZ}
 use Rattle.algebra.specs.Gcd.{divideBy, length-divideBy}
 use Rattle.algebra.specs.Polynomials.{Polynomial}
-use Rattle.lists.specs.Tests.{every, true-T}
+use Rattle.lists.specs.Tests.{true-T}
 use Rattle.polynomials.specs.Content.{Below}
 use Rattle.products.specs.Product.{below-part}
-use Rattle.rules.specs.Limits.{small, rowLength, entriesLength}
+use Rattle.rules.specs.Limits.{rowLength, entriesLength}
 use Rattle.rules.specs.Rows.{Row, mapRow, coefficientsOf, cut, lowDegrees, width}
 use Rattle.rules.specs.Stores.{rowOf}
 use Rattle.rules.specs.Layout.{rowOf-coefficientsOf}
@@ -29,7 +28,7 @@ use Rattle.working_rows.specs.declared.WorkingRow.{WorkingRow}
 use Rattle.working_rows.specs.Working.{numbersHeld, Full, loaded}
 use Rattle.working_rows.specs.Worked.{refusalOf, workedRow}
 use Rattle.combinations.specs.declared.Combination.{Combination}
-use Rattle.combinations.specs.Combination.{lowNumbers, low-degrees, cut-low, StoreRow-cut}
+use Rattle.combinations.specs.Combination.{lowNumbers, cut-low, StoreRow-cut}
 use Rattle.combinations.specs.Primitive.{cut-divided}
 use Rattle.combinations.specs.Undivided.{RowsFit, StoredFit, undividedOf, wholeRow, loaded-held, stored-fits, undivided-beyond}
 use Rattle.combinations.specs.Undivided.{undivided-whole, wholly-full, wholly-held, all-below}
@@ -195,7 +194,8 @@ unfolding refusalOf
 returns-2 c =
     let test = c .before .before in
     let s = start (test .before .before) in
-    let e = judged-inexact (d s) (g s) (h s) (target s) (pivot s) (sym (tested s (test .divides-combination .ensures)) ∙ c .before .if2 .left) in
+    let inexact = sym (tested s (test .divides-combination .ensures)) ∙ c .before .if2 .left in
+    let e = judged-inexact (d s) (g s) (h s) (target s) (pivot s) inexact in
     (c .broken2 .ensures .0 ∙ sym (ap refusalOf e), c .broken2 .ensures .1 ∙ sym (ap workedRow e))
 
 exact-quotient-requires : tie.Need-exact-quotient-requires

@@ -1,24 +1,23 @@
 -- `log_steps::combining::exact_quotient` meets its contract.
 -- Assumes nothing.
-use mathlib.Core.Path.{_≡_, sym, _∙_, ap, ap₂, subst}
-use mathlib.Core.Bool.{Bool, true, false, not, _&&_, and-false}
+use mathlib.Core.Path.{_≡_, sym, _∙_, ap, ap₂}
+use mathlib.Core.Bool.{Bool, true, false, _&&_, and-false}
 use mathlib.Core.List.{List, _++_}
-use Prim.Native.Nat.{ℕ, _<_}
+use Prim.Native.Nat.{ℕ}
 use borrow.Author.Tests.{not-true, not-false}
 use lib.IntN.{ℤ, natAbs}
-use lib.ListN.{length}
 use mir.Syntax.{w64}
 use mir.Val.{toZ, ofZ}
 use mir.Facts.{toZ-ofZ}
 use Rattle.algebra.specs.Gcd.{divideBy, length-divideBy}
 use Rattle.lists.specs.Tests.{every, every-append, true-T}
-use Rattle.rules.specs.Limits.{small, rowLength}
+use Rattle.rules.specs.Limits.{small}
 use Rattle.rules.specs.Rows.{coefficientsOf, width}
 use Rattle.rules.specs.Stores.{rowOf}
 use Rattle.rules.specs.Layout.{coefficientsOf-rowOf-all}
 use Rattle.rules.specs.Elimination.{within, beyond}
 use Rattle.working_rows.specs.declared.WorkingRow.{WorkingRow}
-use Rattle.working_rows.specs.Working.{numbersHeld, Full, length-held}
+use Rattle.working_rows.specs.Working.{numbersHeld, length-held}
 use Rattle.working_rows.specs.Worked.{refusalOf, workedRow, worked-held, limit-within, limit-beyond}
 use Rattle.combinations.specs.Primitive.{divided-append}
 use Rattle.combinations.specs.Undivided.{divided-width}
@@ -91,7 +90,8 @@ module _ (c : tie.Start) where
     large : (every small (divideBy n left) && every small (divideBy n right)) ≡ false → quotientOf n row ≡ beyond 8
     large e = quotient-exact n row exact ∙ limit-beyond (rowOf numbers) numbers whole (small-split ∙ e)
 
-    within-limit : (every small (divideBy n left) && every small (divideBy n right)) ≡ true → quotientOf n row ≡ within (rowOf numbers)
+    within-limit : (every small (divideBy n left) && every small (divideBy n right)) ≡ true
+        → quotientOf n row ≡ within (rowOf numbers)
     within-limit e = quotient-exact n row exact ∙ limit-within (rowOf numbers) numbers whole (small-split ∙ e)
 
   -- the new row
@@ -105,6 +105,19 @@ module _ (c : tie.Start) where
       })
       (c .pre .0 .1 ∙ sym (divided-width n left (positive-size (c .args .d) (c .pre .0 .2)) (content-exact n left .0 (true-T _ e))))
       ∙ ap (λ l. workedRow (within (rowOf l))) (sym joined)
+
+-- the integer divides both parts
+module _ (q : tie.Else2) where
+  abbrev start : tie.Start
+  start = q .before .before .before .before .before .before .before .before .before .before
+
+  divided-left : (dividesAll (n start) (left start) ≡ true)
+      × (q .before .before .before .before .before .before .divide-exactly .last .0 ≡ divideBy (n start) (left start))
+  divided-left = exact-left start (q .before .before .before .before .before .before .divide-exactly .ensures) (not-false _ (q .before .before .before .before .if1 .left))
+
+  divided-right : (dividesAll (n start) (right start) ≡ true)
+      × (q .before .before .divide-exactly2 .last .0 ≡ divideBy (n start) (right start))
+  divided-right = exact-right start (q .before .before .divide-exactly2 .ensures) (not-false _ (q .if2 .left))
 
 slice-aggregate-divide-exactly : tie.Need-slice-aggregate-divide-exactly
 slice-aggregate-divide-exactly c = search needs
@@ -153,11 +166,10 @@ broken-requires-3 c κs = search needs
 returns-3 : tie.Need-returns-3
 unfolding refusalOf
 returns-3 c =
-    let s = c .before .before .before .before .before .before .before .before .before .before .before .before .before .before in
-    let one = exact-left s (c .before .before .before .before .before .before .before .before .before .before .divide-exactly .ensures) (not-false _ (c .before .before .before .before .before .before .before .before .if1 .left)) in
-    let two = exact-right s (c .before .before .before .before .before .before .divide-exactly2 .ensures) (not-false _ (c .before .before .before .before .if2 .left)) in
-    let past = ap (every small) (sym (one .1)) ∙ sym (c .before .before .all-small .ensures) ∙ not-true _ (c .before .if3 .taken) in
-    let e = large s (one .0) (two .0) (ap (λ t. t && every small (divideBy (n s) (right s))) past) in
+    let q = c .before .before .before .before in
+    let s = start q in
+    let past = ap (every small) (sym (divided-left q .1)) ∙ sym (c .before .before .all-small .ensures) ∙ not-true _ (c .before .if3 .taken) in
+    let e = large s (divided-left q .0) (divided-right q .0) (ap (λ t. t && every small (divideBy (n s) (right s))) past) in
     (c .broken3 .ensures .0 ∙ sym (ap refusalOf e), c .broken3 .ensures .1 ∙ sym (ap workedRow e))
 
 slice-aggregate-all-small-2 : tie.Need-slice-aggregate-all-small-2
@@ -172,21 +184,22 @@ broken-requires-4 c κs = search needs
 returns-4 : tie.Need-returns-4
 unfolding refusalOf
 returns-4 c =
-    let s = c .before .before .before .before .before .before .before .before .before .before .before .before .before .before .before .before .before in
-    let one = exact-left s (c .before .before .before .before .before .before .before .before .before .before .before .before .before .divide-exactly .ensures) (not-false _ (c .before .before .before .before .before .before .before .before .before .before .before .if1 .left)) in
-    let two = exact-right s (c .before .before .before .before .before .before .before .before .before .divide-exactly2 .ensures) (not-false _ (c .before .before .before .before .before .before .before .if2 .left)) in
-    let past = ap (every small) (sym (two .1)) ∙ sym (c .before .before .all-small2 .ensures) ∙ not-true _ (c .before .if4 .taken) in
+    let q = c .before .before .before .before .before .before .before in
+    let s = start q in
+    let past = ap (every small) (sym (divided-right q .1)) ∙ sym (c .before .before .all-small2 .ensures) ∙ not-true _ (c .before .if4 .taken) in
     let first = every small (divideBy (n s) (left s)) in
-    let e = large s (one .0) (two .0) (ap (λ t. first && t) past ∙ and-false first) in
+    let e = large s (divided-left q .0) (divided-right q .0) (ap (λ t. first && t) past ∙ and-false first) in
     (c .broken4 .ensures .0 ∙ sym (ap refusalOf e), c .broken4 .ensures .1 ∙ sym (ap workedRow e))
 
 returns-5 : tie.Need-returns-5
 unfolding refusalOf
 returns-5 c =
-    let s = c .before .before .before .before .before .before .before .before .before .before .before .before .before .before .before .before in
-    let one = exact-left s (c .before .before .before .before .before .before .before .before .before .before .before .before .divide-exactly .ensures) (not-false _ (c .before .before .before .before .before .before .before .before .before .before .if1 .left)) in
-    let two = exact-right s (c .before .before .before .before .before .before .before .before .divide-exactly2 .ensures) (not-false _ (c .before .before .before .before .before .before .if2 .left)) in
-    let little = ap (every small) (sym (one .1)) ∙ sym (c .before .before .before .before .all-small .ensures) ∙ not-false _ (c .before .before .before .if3 .left) in
+    let third = c .before .before .before in
+    let q = third .before .before .before in
+    let s = start q in
+    let one = divided-left q in
+    let two = divided-right q in
+    let little = ap (every small) (sym (one .1)) ∙ sym (third .before .all-small .ensures) ∙ not-false _ (third .if3 .left) in
     let also = ap (every small) (sym (two .1)) ∙ sym (c .before .all-small2 .ensures) ∙ not-false _ (c .if4 .left) in
     let e = within-limit s (one .0) (two .0) (ap₂ _&&_ little also) in (
       sym (ap refusalOf e),
