@@ -13,7 +13,7 @@
 --   ℤ-induction-up, ℤ-induction-down       induction from a number upward, and downward
 use Rattle.std.specs.Prelude.{◌≡◌, ◌↔◌, ◌≢◌, ◌⊎◌, Bool, true, false, cond, ℕ, zero, suc, ◌+◌, ◌-◌, ◌*◌, ◌≤◌, ◌<◌, T, ltb, ℤ, pos, negsuc, neg_ℤ, nat_abs, ◌+ℤ◌, ◌-ℤ◌, ◌*ℤ◌, ◌≤ℤ◌, ◌<ℤ◌}
 use Rattle.std.proofs.Common.{sym, ◌∙◌, ap, subst, inl, inr, ⊎_elim, zero-le, suc-le-suc, add-sub_of_le, le_antisymm, le_of_suc-le-suc, not-suc-le-zero, le_refl, add-one, arith, leb→le, le→leb, ltb→lt, lt→ltb}
-use Rattle.std.proofs.Math.Logic.{Ne·symm}
+use Rattle.std.proofs.Math.Logic.{Ne-symm}
 use Rattle.std.proofs.Math.Decide.{map_dec}
 use Rattle.std.proofs.Math.Dec.{T_prop, not_T}
 use Rattle.std.proofs.Math.IntN.{suc_ℤ, +ℤ_assoc, +ℤ_comm, +ℤ_idl, +ℤ_idr, +ℤ_invl, +ℤ_invr, +ℤ_one, +ℤ-neg_ℤ_cancel, -ℤ-+ℤ_cancel, neg_ℤ-+ℤ, neg_ℤ-neg_ℤ, *ℤ_comm, *ℤ-zero}
@@ -253,7 +253,7 @@ pub *ℤ-≤ℤ-right : {a b c : ℤ} → pos 0 ≤ℤ c → a ≤ℤ b → (a *
 
 pub *ℤ-<ℤ-left : {a b c : ℤ} → pos 0 <ℤ c → a <ℤ b → (c *ℤ a) <ℤ (c *ℤ b)
 *ℤ-<ℤ-left {a} {b} {c} p h =
-    ≤ℤ-≢-<ℤ (*ℤ-≤ℤ-left (<ℤ-to-≤ℤ p) (<ℤ-to-≤ℤ h)) (λ e. <ℤ-≢ h (*ℤ-cancel-left c a b (Ne·symm (<ℤ-≢ p)) e))
+    ≤ℤ-≢-<ℤ (*ℤ-≤ℤ-left (<ℤ-to-≤ℤ p) (<ℤ-to-≤ℤ h)) (λ e. <ℤ-≢ h (*ℤ-cancel-left c a b (Ne-symm (<ℤ-≢ p)) e))
 
 pub *ℤ-<ℤ-right : {a b c : ℤ} → pos 0 <ℤ c → a <ℤ b → (a *ℤ c) <ℤ (b *ℤ c)
 *ℤ-<ℤ-right {a} {b} {c} p h = rw (*ℤ_comm a c, *ℤ_comm b c) (*ℤ-<ℤ-left p h)

@@ -10,7 +10,8 @@ use Prim.Native.Nat.{ℕ, zero, suc}
 use Rattle.std.specs.Prelude.{◌≡◌, ◌≢◌, ◌↔◌, Bool, true, false, cond, T, get_or, nat_abs, ◌+ℤ◌, ◌*ℤ◌}
 use Rattle.std.proofs.Math.Path.{refl, sym, ap, subst}
 use Rattle.std.proofs.Common.{◌∙◌, ap₂, arith}
-use Rattle.std.proofs.Math.Logic.{Iff·rfl, Iff·trans, ⊎_elim}
+use Rattle.std.proofs.Math.Logic.{⊎_elim}
+use mathlib.Core.Logic.Iff
 use mathlib.Core.List.{List, [], ◌∷◌, ◌++◌, zip_with}
 use Rattle.std.proofs.Math.Option.{Option, none, some, map}
 use Rattle.std.proofs.Math.ListN.{length}
@@ -252,7 +253,7 @@ module _ (n : ℕ) where
         length-kept = sym (ap length same) ∙ fits;
         zeros-kept = λ c _ z. subst (λ u. at u c ≡ pos 0) same z;
         zero-at = tt;
-        kernel-kept = λ v _. subst (λ u. Kills n v r ↔ Kills n v u) same Iff·rfl;
+        kernel-kept = λ v _. subst (λ u. Kills n v r ↔ Kills n v u) same Iff.rfl;
       }
   reduce_all-reduced (p ∷ ps) t r fits q e =
       let (one, first, rest) = and_on-fine (reduce_by_of p r) (reduce_all_of ps) q e in
@@ -262,7 +263,7 @@ module _ (n : ℕ) where
         length-kept = more.length-kept;
         zeros-kept = λ c z y. more.zeros-kept c z.1 (reduced-zero p t.1 t.0 r fits one w c z.0 y);
         zero-at = (more.zeros-kept p.column t.2 w.cleared, more.zero-at);
-        kernel-kept = λ v k. Iff·trans (reduced-kernel p t.1 t.0 r fits one w v k.0) (more.kernel-kept v k.1);
+        kernel-kept = λ v k. Iff.trans (reduced-kernel p t.1 t.0 r fits one w v k.0) (more.kernel-kept v k.1);
       }
 
 -- ---- the rows one after another
@@ -321,7 +322,7 @@ module _ (n : ℕ) where
   settled-one ps t r q w (some c) e =
       let new : Pivot = record { numbers = q; column = c } in (
         echelon-snoc ps new t w.length-kept (first-nonzero q c e) w.zero-at,
-        λ v. Iff·trans (λ h. (h.0, (w.kernel-kept v h.0).0 h.1), λ h. (h.0, (w.kernel-kept v h.0).1 h.1))
+        λ v. Iff.trans (λ h. (h.0, (w.kernel-kept v h.0).0 h.1), λ h. (h.0, (w.kernel-kept v h.0).1 h.1))
             (all_snoc (λ p. Kills n v p.numbers) ps new),
       )
 
@@ -340,6 +341,6 @@ module _ (n : ℕ) where
       let more = eliminate-settled rows (settle_at ps q (first_at q)) u s.1 qs rest in
       record {
         echelon = more.echelon;
-        kernel = λ v. Iff·trans (λ h. ((k v).0 (h.0, h.1.0), h.1.1), λ h. let a = (k v).1 h.0 in (a.0, (a.1, h.1)))
+        kernel = λ v. Iff.trans (λ h. ((k v).0 (h.0, h.1.0), h.1.1), λ h. let a = (k v).1 h.0 in (a.0, (a.1, h.1)))
             (more.kernel v);
       }

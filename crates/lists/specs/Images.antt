@@ -56,7 +56,7 @@ map-reverse f (x ∷ l) =
 
 -- A member of a mapped list, for any value that stands for a missing one.
 pub get_or_map : {A B : Type 0} (f : A → B) (l : List A) (i : ℕ) (d : A) (e : B) → i < length l → get_or (map f l) i e ≡ f (get_or l i d)
-get_or_map f l i d e h = get_or_default (map f l) i e (f d) (rw (length-map l f) h) ∙ ListN.get_or_map f l i d
+get_or_map f l i d e h = get_or_default (map f l) i e (f d) (rw (length-map l f) h) ∙ ListN.get_or-map f l i d
 
 module _ {A : Type 0} (d : A) where
   pub get_or_reverse : (l : List A) (i : ℕ) → i < length l → get_or (reverse l) i d ≡ get_or l (length l - suc i) d

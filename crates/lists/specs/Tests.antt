@@ -106,6 +106,7 @@ T-not-or false t = (λ h. (tt, h), λ h. h.1)
 
 pub cond-passed : {A : Type 0} (t : Bool) (x y : A) → T t → cond t x y ≡ x
 cond-passed true x y h = refl
+cond-passed {A = A} false x y h = elim h [ ]
 
 pub cond-failed : {A : Type 0} (t : Bool) (x y : A) → ¬ T t → cond t x y ≡ y
 cond-failed true x y h = absurd (h tt)

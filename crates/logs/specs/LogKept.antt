@@ -8,7 +8,7 @@
 use Rattle.std.specs.Prelude.{ℕ, ◌≤◌, ◌<◌, ◌≡◌, refl, ◌↔◌, length, set, ℤ, ◌*ℤ◌}
 use Rattle.std.proofs.Common.{sym, ◌∙◌, ap₂, le_refl, le_trans, le_of_eq, arith, length-set}
 use Rattle.std.proofs.Math.Path.{ap, subst}
-use Rattle.std.proofs.Math.Logic.{Iff·rfl, Iff·trans}
+use mathlib.Core.Logic.Iff
 use mathlib.Core.List.{List, [], ◌∷◌, ◌++◌, flatten, append-nil, append_assoc}
 use Rattle.std.proofs.Math.Dec.{T, le→leb}
 use Rattle.std.proofs.Math.ListN.{get_or}
@@ -223,8 +223,8 @@ replay-valid (before c r) v = replay-valid r (changed-valid c v)
 
 pub replay-solutions : {z : Sizes} {s s' : State} (l : ℤ) (y : Sequence) → ValidRows z s.rows s.relations → Replay (span z) s s'
     → Satisfies l s.rows s.relations y ↔ Satisfies l s'.rows s'.relations y
-replay-solutions l y v here = Iff·rfl
-replay-solutions l y v (before c r) = Iff·trans (changed-solutions l y v c) (replay-solutions l y (changed-valid c v) r)
+replay-solutions l y v here = Iff.rfl
+replay-solutions l y v (before c r) = Iff.trans (changed-solutions l y v c) (replay-solutions l y (changed-valid c v) r)
 
 pub replay-length : {D : ℕ} {s s' : State} → Replay D s s' → length s'.rows ≤ length s.rows
 replay-length {s} here = le_refl (length s.rows)

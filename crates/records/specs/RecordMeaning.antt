@@ -14,7 +14,7 @@ use Rattle.std.specs.Prelude.{ℕ, zero, suc, pred, ◌+◌, ◌*◌, ◌-◌, �
 use Rattle.std.proofs.Common.{suc-le-suc, add-zero, zero-add, arith, sym, ◌∙◌, ap₂, subst, inl, inr, ⊎_elim, length-take, take-append-drop}
 use Rattle.std.proofs.Math.Nat.{sub-zero}
 use Rattle.std.proofs.Math.Path.{ap}
-use Rattle.std.proofs.Math.Logic.{Iff·trans, Iff·symm}
+use mathlib.Core.Logic.Iff
 use mathlib.Core.List.Memᴰ
 use mathlib.Core.List.{List, [], ◌∷◌, ◌++◌, map, flatten, Memᴰ}
 use Rattle.std.proofs.Math.Option.{Option, none, some}
@@ -147,36 +147,36 @@ block_none : (n : ℤ) (values : List ℤ) (from c : ℕ) (s : ℤ) (ps : Block)
 unfolding with_block
 block_none n values from c s [] = (λ e. absurd (some-none e), λ w. absurd (passes_none n w))
 block_none n values from c s (p ∷ ps) =
-    Iff·trans
+    Iff.trans
     (after-none-iff (λ v. with_block n values from (suc c) (s +ℤ v *ℤ get_or values (from + c) (pos 0)) ps) (horner n p) (horner-none n p)
     (λ v. block_none n values from (suc c) (s +ℤ v *ℤ get_or values (from + c) (pos 0)) ps))
-    (Iff·symm (passes-first n p ps))
+    (Iff.symm (passes-first n p ps))
 
 blocks-none : (n : ℤ) (values : List ℤ) (m top : ℕ) (s : ℤ) (bs : List Block)
     → (with_blocks n values m top s bs ≡ none) ↔ SomePasses n (flatten (map (take m) bs))
 unfolding with_blocks flatten
 blocks-none n values m top s [] = (λ e. absurd (some-none e), λ w. absurd (passes_none n w))
 blocks-none n values m top s (b ∷ bs) =
-    Iff·trans
+    Iff.trans
     (after-none-iff (λ q. with_blocks n values m (pred top) q bs) (with_block n values (top * m) 0 s (take m b))
     (block_none n values (top * m) 0 s (take m b)) (λ q. blocks-none n values m (pred top) q bs))
-    (Iff·symm (passes_append n (take m b) (flatten (map (take m) bs))))
+    (Iff.symm (passes_append n (take m b) (flatten (map (take m) bs))))
 
 -- A value is subtracted without a limit.
 right-none : (n s : ℤ) (p : Polynomial) → (less_right n p s ≡ none) ↔ SomePasses n (p ∷ [])
 unfolding less_right
 right-none n s p =
-    Iff·trans (after-none-iff (λ b. some (s -ℤ b)) (horner n p) (horner-none n p) (λ b. (λ e. some-none e, λ e. absurd e)))
-    (Iff·trans (λ h. ⊎_elim (λ w. inl w) (λ w. absurd w) h, λ h. ⊎_elim (λ w. inl w) (λ w. absurd (passes_none n w)) h)
-    (Iff·symm (passes-first n p [])))
+    Iff.trans (after-none-iff (λ b. some (s -ℤ b)) (horner n p) (horner-none n p) (λ b. (λ e. some-none e, λ e. absurd e)))
+    (Iff.trans (λ h. ⊎_elim (λ w. inl w) (λ w. absurd w) h, λ h. ⊎_elim (λ w. inl w) (λ w. absurd (passes_none n w)) h)
+    (Iff.symm (passes-first n p [])))
 
 pub row_sum-none : (m D : ℕ) (values : List ℤ) (top : ℕ) (r : Row) (n : ℤ) → (row_sum_of m D values top r n ≡ none) ↔ RowPasses m D r n
 unfolding row_sum_of RowPasses entries_of
 row_sum-none m D values top r n =
-    Iff·trans
+    Iff.trans
     (after-none-iff (less_right n r.right) (with_blocks n values m top (pos 0) (take (suc D) r.blocks))
     (blocks-none n values m top (pos 0) (take (suc D) r.blocks)) (λ s. right-none n s r.right))
-    (Iff·symm (passes_append n (flatten (map (take m) (take (suc D) r.blocks))) (r.right ∷ [])))
+    (Iff.symm (passes_append n (flatten (map (take m) (take (suc D) r.blocks))) (r.right ∷ [])))
 
 -- ---- a sum is the value of the row
 

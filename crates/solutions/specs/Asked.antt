@@ -9,7 +9,8 @@ use Prim.Native.Nat.{ℕ, suc, ◌+◌, ◌≤◌, ◌<◌}
 use Rattle.std.specs.Prelude.{◌≡◌, ◌↔◌, length, ℤ, neg_ℤ, ◌+ℤ◌, ◌-ℤ◌, ◌≤ℤ◌, ◌<ℤ◌}
 use Rattle.std.proofs.Math.Path.{sym}
 use Rattle.std.proofs.Common.{◌∙◌, ap, subst, arith}
-use Rattle.std.proofs.Math.Logic.{Iff·trans, Iff·symm, ⊎_elim}
+use Rattle.std.proofs.Math.Logic.{⊎_elim}
+use mathlib.Core.Logic.Iff
 use mathlib.Core.List.{List, ◌++◌, map, flatten}
 use Rattle.std.proofs.Math.Dec.{T}
 use Rattle.std.proofs.Math.IntN.{pos, nat_abs, +ℤ-neg_ℤ_cancel, -ℤ-+ℤ_cancel}
@@ -132,8 +133,8 @@ module _ {z : Sizes} {rows : List Row} {relations : List Relation} (valid : Vali
         parts = all_append Zero (flatten (map f ns)) relations
 
         flat : All Zero (flatten (map f ns)) ↔ All (λ k. All Zero (f (pos k -ℤ z.l))) ks
-        flat = Iff·trans (all-flatten Zero (map f ns))
-            (Iff·trans (all_map (All Zero) f ns) (all_map (λ n. All Zero (f n)) (λ k. pos k -ℤ z.l) ks))
+        flat = Iff.trans (all-flatten Zero (map f ns))
+            (Iff.trans (all_map (All Zero) f ns) (all_map (λ n. All Zero (f n)) (λ k. pos k -ℤ z.l) ks))
 
         single : (k : ℕ) → All Zero (f (pos k -ℤ z.l)) ↔ All (row_zero k) rows
         single k = all_map Zero (at-index (pos k -ℤ z.l)) rows
@@ -141,7 +142,7 @@ module _ {z : Sizes} {rows : List Row} {relations : List Relation} (valid : Vali
     module _ (sides : T (homogeneous rows relations)) (some-column : 0 < z.m) where
       asked-satisfies : All Zero (asked z N rows relations) ↔ Satisfies z.l rows relations y
       unfolding Satisfies SatisfiesEquation SatisfiesRelation Zero row_zero
-      asked-satisfies = Iff·trans asked-parts (forth, back)
+      asked-satisfies = Iff.trans asked-parts (forth, back)
         where
           forth : All (λ k. All (row_zero k) rows) (count_from 0 (suc (N + span z))) × All Zero relations → Satisfies z.l rows relations y
           forth h = (
@@ -173,7 +174,7 @@ module _ {z : Sizes} {rows : List Row} {relations : List Relation} (valid : Vali
           → Satisfies z.l rows relations (sequence_of z.m N v) ↔ All (Kills (the_columns_of z.m N) v) rs
       unfolding constant_rows_of y Zero
       rows-say rs e =
-          Iff·trans (Iff·symm asked-satisfies)
+          Iff.trans (Iff.symm asked-satisfies)
           (each_all Zero (Kills (the_columns_of z.m N) v) (λ e. constant_row_of z.m z.l N e.row e.index)
           (λ e row f. row-says z.m N v some-column z.l e.row e.index row f) (asked z N rows relations) rs e)
 

@@ -16,7 +16,7 @@ use Prim.Native.Nat.{ℕ, ◌+◌, ◌*◌, ◌<◌}
 use Rattle.std.specs.Prelude.{◌≡◌, refl, ◌≢◌, ◌↔◌, Bool, true, false, ◌&&◌, cond, leb, ltb, pos, negsuc, ◌+ℤ◌, ◌*ℤ◌, ◌<ℤ◌}
 use Rattle.std.proofs.Math.Path.{sym, ap, subst}
 use Rattle.std.proofs.Common.{◌∙◌, ap₂, ⊎_elim, arith, leb→le, ltb→lt}
-use Rattle.std.proofs.Math.Logic.{Iff·trans}
+use mathlib.Core.Logic.Iff
 use mathlib.Core.List.{List, [], ◌∷◌, map}
 use Rattle.std.proofs.Math.Option.{some}
 use Rattle.std.proofs.Math.Dec.{T}
@@ -173,8 +173,8 @@ module _ {z : Sizes} {rows : List Row} {relations : List Relation} (valid : Vali
     kernel : (v : ℕ → ℤ) → Satisfies z.l rows relations (sequence_of z.m N v) ↔ KillsAll columns v pivots
     unfolding columns All
     kernel v =
-        Iff·trans (rows-say valid N v course.begun.sides some-column course.constants course.made)
-        (Iff·trans (λ h. (tt, h), λ h. h.1) (settled.kernel v))
+        Iff.trans (rows-say valid N v course.begun.sides some-column course.constants course.made)
+        (Iff.trans (λ h. (tt, h), λ h. h.1) (settled.kernel v))
 
     listed_of : (f : ℕ) (v : List ℤ) → Solves columns pivots f v → ListedAt z rows relations N pivots f v
     unfolding columns

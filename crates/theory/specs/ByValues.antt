@@ -11,7 +11,7 @@
 use Rattle.std.specs.Prelude.{◌≡◌, refl, ◌↔◌, T, length, get_or, pos, negsuc, neg_ℤ, nat_abs, ◌+ℤ◌, ◌-ℤ◌, ◌*ℤ◌}
 use Rattle.std.proofs.Math.Path.{sym}
 use Rattle.std.proofs.Common.{◌∙◌, ap, ap₂, subst, le_trans, arith}
-use Rattle.std.proofs.Math.Logic.{Iff·symm, Iff·trans}
+use mathlib.Core.Logic.Iff
 use mathlib.Core.List.{List, [], ◌∷◌, map, flatten}
 use Prim.Native.Nat.{ℕ, suc, ◌+◌, ◌-◌, ◌≤◌, ◌<◌, zero-le}
 use Rattle.std.proofs.Math.ListN.{get_or-eq_default, get_or-map}
@@ -337,4 +337,4 @@ pub by_values : (l : ℤ) (rows rows' : List Row) → length rows' ≡ length ro
     → DependentValues (length rows) (row_values l rows) ↔ DependentValues (length rows) (row_values l rows')
     → Dependent l rows ↔ Dependent l rows'
 by_values l rows rows' e change =
-    Iff·trans (dependent-values l rows) (Iff·trans change (Iff·symm (counted-values l rows' (length rows) e)))
+    Iff.trans (dependent-values l rows) (Iff.trans change (Iff.symm (counted-values l rows' (length rows) e)))

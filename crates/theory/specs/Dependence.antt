@@ -8,7 +8,8 @@
 use Rattle.std.specs.Prelude.{◌≡◌, ◌↔◌, not, ℕ, ◌≤◌, ◌<◌, T, length, set, ℤ}
 use Rattle.std.proofs.Common.{sym, inl, inr, arith}
 use Rattle.std.proofs.Math.Path.{subst}
-use Rattle.std.proofs.Math.Logic.{Iff·rfl, Iff·trans, by_cases}
+use Rattle.std.proofs.Math.Logic.{by_cases}
+use mathlib.Core.Logic.Iff
 use Rattle.std.proofs.Math.Option.{none}
 use Rattle.std.proofs.Math.Decide.{dec_lt}
 use Rattle.algebra.specs.Polynomials.{is_zero_of}
@@ -40,7 +41,7 @@ module _ (l : ℤ) where
   narrowed-dependent s i j i-below j-below = go (narrowed s i j)
     where
       go : {e : State} → Narrowed s i j e → Dependent l s.rows ↔ Dependent l e.rows
-      go (kept w) = Iff·rfl
+      go (kept w) = Iff.rfl
       go (swapped w) = exchange-dependent s.rows i j l i-below j-below
 
   combined-dependent : (side : Side) (s : State) (j : ℕ) (r : Row) → All StoreRow s.rows → T (not (is_zero_of (multipliers_for s j).g))
@@ -76,9 +77,9 @@ module _ (l : ℤ) where
       → length s'.rows ≡ length s.rows → Dependent l s.rows ↔ Dependent l s'.rows
   unfolding put_row settle count_shift
   stepped-dependent {side} {s} shaped t (combined j before below nonzero clear meets few r e) same =
-      Iff·trans (narrowed-dependent s (current s) j below (omega arith))
+      Iff.trans (narrowed-dependent s (current s) j below (omega arith))
       (combined-dependent side s j r shaped.row-shapes (multipliers_for-nonzero s j t before below clear meets) before below e)
-  stepped-dependent shaped t (settled c below nonzero clear e) same = Iff·rfl
+  stepped-dependent shaped t (settled c below nonzero clear e) same = Iff.rfl
   stepped-dependent {s} shaped t (shifted r below nonzero clear f e) same = shifted-dependent s r below f e
   stepped-dependent {s} shaped t (dropped below zeros) same = absurd (omega (arith, length-drop_row s (current s) below))
 
@@ -96,9 +97,9 @@ module _ (l : ℤ) where
   -- The same of a chain of steps.
   pub chain-dependent : {side : Side} {s s' : State} {k : ℕ} → StateShaped s → Triangular s → Chain side s k s'
       → length s'.rows ≡ length s.rows → Dependent l s.rows ↔ Dependent l s'.rows
-  chain-dependent shaped t here same = Iff·rfl
+  chain-dependent shaped t here same = Iff.rfl
   chain-dependent {s} {s'} shaped t (next {u} c step) same =
-      Iff·trans (chain-dependent shaped t c (omega (arith, chain_length c, stepped-length step)))
+      Iff.trans (chain-dependent shaped t c (omega (arith, chain_length c, stepped-length step)))
       (stepped-dependent (chain-shapes c shaped) (triangular-chain c t) step (omega (arith, chain_length c, stepped-length step)))
 
   pub chain-dependent-back : {side : Side} {s s' : State} {k : ℕ} → StateShaped s → Triangular s → Chain side s k s'

@@ -13,7 +13,8 @@ use Prim.Native.Nat.{ℕ, ◌≤◌, ◌<◌}
 use Rattle.std.specs.Prelude.{◌≡◌, ◌≢◌, ◌↔◌, not, List, length, get_or, set, ℤ, ◌+ℤ◌, ◌*ℤ◌}
 use Rattle.std.proofs.Common.{sym, ◌∙◌, ap, ap₂, arith, length-set, get_or-set_other}
 use Rattle.std.proofs.Math.Path.{subst}
-use Rattle.std.proofs.Math.Logic.{Iff·rfl, by_cases}
+use Rattle.std.proofs.Math.Logic.{by_cases}
+use mathlib.Core.Logic.Iff
 use Rattle.std.proofs.Math.Decide.{ℕ_discrete}
 use Rattle.std.proofs.Math.Dec.{T}
 use Rattle.std.proofs.Math.IntN.{+ℤ_comm}
@@ -143,7 +144,7 @@ module _ (i j : ℕ) (apart : i ≢ j) where
 pub exchange-dependent : (rows : List Row) (i j : ℕ) (l : ℤ) → i < length rows → j < length rows
     → Dependent l rows ↔ Dependent l (exchange_rows_of rows i j)
 exchange-dependent rows i j l i-below j-below = by_cases (ℕ_discrete i j)
-    (λ e. subst (λ x. Dependent l rows ↔ Dependent l x) (sym (swap-same rows no_row i j e)) Iff·rfl)
+    (λ e. subst (λ x. Dependent l rows ↔ Dependent l x) (sym (swap-same rows no_row i j e)) Iff.rfl)
     (λ apart. by_values l rows (exchange_rows_of rows i j) (length-swap rows no_row i j) (
       exchanged-values i j apart (length rows) (row_values l rows) (row_values l (exchange_rows_of rows i j)) i-below j-below at_i at_j others,
       exchanged-values i j apart (length rows) (row_values l (exchange_rows_of rows i j)) (row_values l rows) i-below j-below

@@ -13,7 +13,7 @@
 use Rattle.std.specs.Prelude.{◌≡◌, ◌↔◌, ◌≢◌, ℕ, suc, ◌+◌, ◌≤◌, ◌<◌, not, T, set, ℤ, ◌+ℤ◌, ◌-ℤ◌, ◌≤ℤ◌}
 use Rattle.std.proofs.Math.Path.{refl, sym, ap, subst}
 use Rattle.std.proofs.Common.{◌∙◌, add-zero, add-one, get_or-set_same, get_or-set_other, lt-length-set}
-use Rattle.std.proofs.Math.Logic.{Iff·rfl}
+use mathlib.Core.Logic.Iff
 use native.Mathlib.Omega.{arith}
 use mathlib.Core.List.{List, [], ◌∷◌, ◌++◌}
 use Rattle.std.proofs.Math.ListN.{length, get_or}
@@ -177,7 +177,7 @@ module _ (l : ℤ) (z : Sequence) (k : ℤ) where
   exchanged-from j s p before below = go (narrowed s (current s) p)
     where
       go : {e : State} → Narrowed s (current s) p e → From j s ↔ From j e
-      go (kept w) = Iff·rfl
+      go (kept w) = Iff.rfl
       go (swapped w) =
           let turned = all-swap s.rows no_row (current s) p (EquationFrom l z j) below (omega arith) in
           (λ a. (turned.1 a.0, a.1), λ a. (turned.0 a.0, a.1))

@@ -19,7 +19,7 @@
 use Rattle.std.specs.Prelude.{ℕ, suc, ◌+◌, ◌-◌, ◌≤◌, ◌<◌, ◌≡◌, refl, ◌↔◌, not, leb, length, get_or, take, nat_abs, ◌+ℤ◌, ◌-ℤ◌, ◌*ℤ◌, ◌≤ℤ◌}
 use Rattle.std.proofs.Common.{arith, ◌∙◌, ap₂, subst₂, take-append-drop, length-take-le, take-suc}
 use Rattle.std.proofs.Math.Path.{sym, ap, subst, fun_ext}
-use Rattle.std.proofs.Math.Logic.{Iff·symm, Iff·trans}
+use mathlib.Core.Logic.Iff
 use mathlib.Core.List.{List, [], ◌∷◌, ◌++◌, map, map-append, zip_with, reverse, reverse-cons, reverse-append, reverse-reverse}
 use Rattle.std.proofs.Math.Dec.{T}
 use Rattle.std.proofs.Math.ListN.{drop, get_or-map}
@@ -325,7 +325,7 @@ mirror-span-sum D l t e =
 pub mirror-satisfies-back : (D : ℕ) (l t : ℤ) → l ≡ t +ℤ pos D → (z : Sequence) (rows : List Row) (relations : List Relation)
     → All (Spans D) rows → All (λ e. Spans D e.row) relations
     → Satisfies l (map (mirror_row_of D) rows) (map (mirror_relation D) relations) z ↔ Satisfies (neg_ℤ t) rows relations (reflect z)
-mirror-satisfies-back D l t e z rows relations a b = Iff·symm (subst₂ Same (neg_ℤ-neg_ℤ l) (reflect-twice z) same)
+mirror-satisfies-back D l t e z rows relations a b = Iff.symm (subst₂ Same (neg_ℤ-neg_ℤ l) (reflect-twice z) same)
   where
     Same : ℤ → Sequence → Type 0
     Same k x = Satisfies (neg_ℤ t) rows relations (reflect z) ↔ Satisfies k (map (mirror_row_of D) rows) (map (mirror_relation D) relations) x
@@ -586,7 +586,7 @@ mirrored-row D rows i = get_or-map (mirror_row_of D) rows i no_row
 pub mirror-dependent : (D : ℕ) (l t : ℤ) → l ≡ t +ℤ pos D → (rows : List Row) → All (Spans D) rows
     → Dependent l rows ↔ Dependent (neg_ℤ t) (map (mirror_row_of D) rows)
 mirror-dependent D l t e rows a =
-    Iff·trans (dependent-values l rows) (Iff·trans (values-mirror-iff (length rows) (row_values l rows) mirrored values) back)
+    Iff.trans (dependent-values l rows) (Iff.trans (values-mirror-iff (length rows) (row_values l rows) mirrored values) back)
   where
     mirrored : Values
     mirrored = row_values (neg_ℤ t) (map (mirror_row_of D) rows)
@@ -599,4 +599,4 @@ mirror-dependent D l t e rows a =
     back : DependentValues (length rows) mirrored ↔ Dependent (neg_ℤ t) (map (mirror_row_of D) rows)
     back =
         subst (λ m. DependentValues m mirrored ↔ Dependent (neg_ℤ t) (map (mirror_row_of D) rows)) (length-map rows (mirror_row_of D))
-        (Iff·symm (dependent-values (neg_ℤ t) (map (mirror_row_of D) rows)))
+        (Iff.symm (dependent-values (neg_ℤ t) (map (mirror_row_of D) rows)))

@@ -14,7 +14,7 @@
 use Rattle.std.specs.Prelude.{ℕ, ◌≤◌, ◌<◌, ◌≡◌, refl, ◌⊎◌, Bool, true, false, not, cond, [], ◌∷◌, ◌++◌, map, T, ℤ, pos, neg_ℤ, nat_abs, ◌+ℤ◌, ◌*ℤ◌, length, ◌≤ℤ◌, ◌<ℤ◌}
 use Rattle.std.proofs.Common.{sym, ◌∙◌, ap₂, le_trans, le_of_eq, leb→le, le→leb}
 use Rattle.std.proofs.Math.Path.{ap}
-use Rattle.std.proofs.Math.Logic.{Ne·symm}
+use Rattle.std.proofs.Math.Logic.{Ne-symm}
 use Rattle.std.proofs.Math.Dec.{T_not, not_T}
 use Rattle.std.specs.Float.Ieee.Fits.{and_i, and_l, and_r}
 use Rattle.std.proofs.Math.IntN.{*ℤ-zero, +ℤ_invr, neg_ℤ-neg_ℤ}
@@ -173,7 +173,7 @@ module _ (a b : Polynomial) where
     ratio-lead = go ratio-turned
       where
         go : {x : Multipliers} → Turned (divide_by common a) (negate (divide_by common b)) x → pos 0 <ℤ lead x.g
-        go (as-they-are h) = ≤ℤ-≢-<ℤ h (Ne·symm ((lead-nonzero (divide_by common a)).0 divided-nonzero))
+        go (as-they-are h) = ≤ℤ-≢-<ℤ h (Ne-symm ((lead-nonzero (divide_by common a)).0 divided-nonzero))
         go (turned h) = rw (lead-negate (divide_by common a)) (neg_ℤ-<ℤ.0 h)
 
   -- A root of g is one of a.

@@ -7,7 +7,7 @@
 --   moved-equation, moved-satisfied, moved-dependent   the new row at n is the old one at n + 1
 use Rattle.std.specs.Prelude.{ℕ, ◌≤◌, ◌<◌, ◌≡◌, ◌≢◌, ◌↔◌, List, length, get_or, set, ℤ, pos, ◌+ℤ◌, ◌-ℤ◌}
 use Rattle.std.proofs.Common.{sym, ◌∙◌, ap, subst, arith, length-set, get_or-set_same, get_or-set_other, lt-length-set}
-use Rattle.std.proofs.Math.IntN.{-ℤ-+ℤ_cancel}
+use Rattle.std.proofs.Math.IntN.{ -ℤ-+ℤ_cancel}
 use Rattle.rules.specs.Rows.{Row, Relation, no_row}
 use Rattle.lists.specs.Everywhere.{All, all_get_or, all_set, all-of-set}
 use Rattle.rules.specs.Sequences.{Sequence, value_of, SatisfiesEquation, SatisfiesRelation, Satisfies, Dependent}

@@ -17,7 +17,8 @@
 use Rattle.std.specs.Prelude.{ℕ, zero, suc, ◌-◌, ◌≤◌, ◌<◌, ◌≡◌, refl, ◌↔◌, ◌⊎◌, Bool, true, length, get_or, set, ℤ, pos, negsuc, ◌+ℤ◌, ◌-ℤ◌}
 use Rattle.std.proofs.Common.{sym, ◌∙◌, ap, ap₂, inl, inr, ⊎_elim, add-one, not-suc-le-zero, zero-lt-suc, lt_of_lt_of_le, arith, length-set, length-append}
 use Rattle.std.proofs.Math.Path.{subst}
-use Rattle.std.proofs.Math.Logic.{Iff·symm, by_cases}
+use Rattle.std.proofs.Math.Logic.{by_cases}
+use mathlib.Core.Logic.Iff
 use Rattle.std.proofs.Math.Decide.{ℕ_discrete}
 use mathlib.Core.List.{List, [], ◌∷◌, ◌++◌, map, map-append, drop_last, get_last_d}
 use Rattle.std.proofs.Math.Nat.{suc-le-suc_iff}
@@ -160,11 +161,11 @@ module _ (l : ℤ) (rows : List Row) (i : ℕ) (below : i < length rows) (zeros 
   pub shift_down-satisfied : (z : Sequence) (relations : List Relation)
       → Satisfies l rows relations z ↔ Satisfies l (set rows i (shift_down (get_or rows i no_row))) relations z
   shift_down-satisfied z relations = replace-satisfied l z rows relations i (shift_down (get_or rows i no_row)) below
-      (Iff·symm (moved-equation l z (shift_down (get_or rows i no_row)) (get_or rows i no_row) (λ n. value-back l (get_or rows i no_row) z n zeros)))
+      (Iff.symm (moved-equation l z (shift_down (get_or rows i no_row)) (get_or rows i no_row) (λ n. value-back l (get_or rows i no_row) z n zeros)))
 
   pub shift_down-dependent : Dependent l rows ↔ Dependent l (set rows i (shift_down (get_or rows i no_row)))
   shift_down-dependent = by_values l rows (set rows i r) (length-set rows i r)
-      (Iff·symm (moved-iff (length rows) i (row_values l (set rows i r)) (row_values l rows)
+      (Iff.symm (moved-iff (length rows) i (row_values l (set rows i r)) (row_values l rows)
       (λ z n. value-back l (get_or rows i no_row) z n zeros ∙ sym (replaced-value l rows i r below z (n +ℤ pos 1)))
       (λ z k n other. sym (kept-value l rows i r z k n other))))
     where

@@ -7,7 +7,7 @@
 use Rattle.std.specs.Prelude.{◌≡◌, ◌↔◌, ℕ, ◌<◌, not, List, T, length, set, ℤ}
 use Rattle.std.proofs.Common.{sym, arith}
 use Rattle.std.proofs.Math.Path.{subst}
-use Rattle.std.proofs.Math.Logic.{Iff·trans, Iff·rfl}
+use mathlib.Core.Logic.Iff
 use Rattle.std.proofs.Math.Option.{none}
 use Rattle.algebra.specs.Polynomials.{is_zero_of}
 use Rattle.rules.specs.Limits.{coefficient_count, column_count, block_count}
@@ -57,7 +57,7 @@ module _ (l : ℤ) (z : Sequence) where
   exchanged-satisfied s j before below = go (narrowed s (current s) j)
     where
       go : {e : State} → Narrowed s (current s) j e → Satisfies l s.rows s.relations z ↔ Satisfies l e.rows e.relations z
-      go (kept w) = Iff·rfl
+      go (kept w) = Iff.rfl
       go (swapped w) = exchange-satisfied s.rows (current s) j l z s.relations below (omega arith)
 
   combined-satisfied : (side : Side) (s : State) (j : ℕ) (r : Row) → All StoreRow s.rows → T (not (is_zero_of (multipliers_for s j).g))
@@ -85,17 +85,17 @@ module _ (l : ℤ) (z : Sequence) where
       → Satisfies l s.rows s.relations z ↔ Satisfies l s'.rows s'.relations z
   unfolding put_row settle count_shift row_at drop_row
   stepped-solutions {side} {s} shaped t (combined j before below nonzero clear meets few r e) =
-      Iff·trans (exchanged-satisfied s j before below)
+      Iff.trans (exchanged-satisfied s j before below)
       (combined-satisfied side s j r shaped.row-shapes (multipliers_for-nonzero s j t before below clear meets) before below e)
-  stepped-solutions shaped t (settled c below nonzero clear e) = Iff·rfl
+  stepped-solutions shaped t (settled c below nonzero clear e) = Iff.rfl
   stepped-solutions {s} shaped t (shifted r below nonzero clear f e) = shifted-satisfied s r below f e
   stepped-solutions {s} shaped t (dropped below zeros) = drop-satisfied l z s.rows s.relations (current s) zeros
 
   pub chain-solutions : {side : Side} {s s' : State} {k : ℕ} → StateShaped s → Triangular s → Chain side s k s'
       → Satisfies l s.rows s.relations z ↔ Satisfies l s'.rows s'.relations z
-  chain-solutions shaped t here = Iff·rfl
+  chain-solutions shaped t here = Iff.rfl
   chain-solutions shaped t (next c u) =
-      Iff·trans (chain-solutions shaped t c) (stepped-solutions (chain-shapes c shaped) (triangular-chain c t) u)
+      Iff.trans (chain-solutions shaped t c) (stepped-solutions (chain-shapes c shaped) (triangular-chain c t) u)
 
   -- A run from rows and relations of the shapes of a store.
   pub run-solutions : {side : Side} {s : State} {k : ℕ} (rows : List Row) (relations : List Relation)

@@ -13,7 +13,7 @@
 use Rattle.std.specs.Prelude.{◌≡◌, ℕ, ◌<◌, ◌↔◌, List, map, ℤ, pos, neg_ℤ, ◌+ℤ◌, ◌≤ℤ◌, ◌<ℤ◌}
 use Rattle.std.proofs.Common.{sym}
 use Rattle.std.proofs.Math.Path.{subst}
-use Rattle.std.proofs.Math.Logic.{Iff·rfl, Iff·trans, Iff·symm}
+use mathlib.Core.Logic.Iff
 use Rattle.std.proofs.Math.ListN.{length}
 use Rattle.std.proofs.lemmas.List.{length-map}
 use Rattle.std.proofs.Math.IntN.{neg_ℤ-neg_ℤ}
@@ -89,12 +89,12 @@ module _ {z : Sizes} {rows : List Row} {relations : List Relation} (v : ValidRow
     unfolding mirror_state
     mirrored-sequences y =
         let m = mirror-valid z rows relations v in
-        Iff·trans (mirror-satisfies (span z) z.l z.t sum y rows relations (valid-rows-span z rows relations v)
+        Iff.trans (mirror-satisfies (span z) z.l z.t sum y rows relations (valid-rows-span z rows relations v)
         (valid-relations-span z rows relations v))
-        (Iff·trans
+        (Iff.trans
         (run-solutions (neg_ℤ z.t) (reflect y) (map (mirror_row_of (span z)) rows) (map (mirror_relation (span z)) relations) m.row-shapes
         m.relation-shapes a.chain)
-        (Iff·symm (mirror-satisfies-back (span z) z.l z.t sum y u.rows u.relations spans relations-span)))
+        (Iff.symm (mirror-satisfies-back (span z) z.l z.t sum y u.rows u.relations spans relations-span)))
 
     leading-diagonal : Diagonal leading (current u) z.m (span z) u
     leading-diagonal = subst (λ d. Diagonal leading (current u) z.m d u) (mirror-span z) (settled-diagonal a)
@@ -115,11 +115,11 @@ module _ {z : Sizes} {rows : List Row} {relations : List Relation} (v : ValidRow
     pub dropped-back : (current u < length rows) ↔ Dependent z.l rows
     unfolding start
     dropped-back =
-        Iff·trans (subst (λ n. (current u < length rows) ↔ (n < length (map (mirror_row_of (span z)) rows))) (settled-count a)
-        (subst (λ n. (current u < length rows) ↔ (current u < n)) (sym (length-map rows (mirror_row_of (span z)))) Iff·rfl))
-        (Iff·trans (settled-dropped (neg_ℤ z.t) (valid-shapes a.valid)
+        Iff.trans (subst (λ n. (current u < length rows) ↔ (n < length (map (mirror_row_of (span z)) rows))) (settled-count a)
+        (subst (λ n. (current u < length rows) ↔ (current u < n)) (sym (length-map rows (mirror_row_of (span z)))) Iff.rfl))
+        (Iff.trans (settled-dropped (neg_ℤ z.t) (valid-shapes a.valid)
         (triangular-start (map (mirror_row_of (span z)) rows) (map (mirror_relation (span z)) relations)) a.chain a.all)
-        (Iff·symm dependent-mirrored))
+        (Iff.symm dependent-mirrored))
 
     pub independent-back : Dependent z.l (mirror_state (span z) u).rows → ⊥
     unfolding mirror_state
