@@ -2,16 +2,12 @@
 -- Assumes nothing.
 use mir.Facts.{to_z-of_z}
 use Rattle.integers.specs.Ranges.{division, sfits-rem_z}
-use Rattle.integers.proofs.remainder.Statement.{statement}
-use Rattle.integers.proofs.remainder.Tie as tie
+use Rattle.integers.proofs.remainder.Goals as goal
 
-rem-result : tie.Need-nonzero-rem-result
-rem-result c = division c.ranges.a c.ranges.d c.requires.0 c.requires.1
+pub nonzero_rem-result : goal.nonzero_rem-result
+nonzero_rem-result c = division c.ranges.a c.ranges.d c.requires.0 c.requires.1
 
-returns : tie.Need-returns
+pub returns : goal.returns
 returns c =
     let fits = sfits-rem_z c.args.a c.args.d c.ranges.a in
     simp (to_z-of_z c.ranges.a, to_z-of_z c.ranges.d, to_z-of_z fits)
-
-pub remainder-spec : {M : Type 1} → statement M
-remainder-spec = tie.close (tie.spec rem-result returns)

@@ -15,8 +15,8 @@ use lib.Signed.{mag, lt_z, non_neg}
 use mir.Syntax.{w64}
 use mir.Val.{SFits, of_z, to_z}
 use mir.Facts.{to_z-of_z, sfits_lit, Fits-nat_abs}
-use Rattle.integers.proofs.magnitude.Statement.{statement}
-use Rattle.integers.proofs.magnitude.Tie as tie
+use Rattle.integers.proofs.magnitude.Goals as goal
+use Rattle.integers.proofs.magnitude.Goals.{Then-a-lt0}
 
 suc-fits : (a : ℤ) → SFits w64 a → lt_z a (pos 0) ≡ true → SFits w64 (suc_ℤ a)
 suc-fits (pos n) f h = omega (arith, ltb-true n 0 h)
@@ -36,7 +36,7 @@ not_negative : (a : ℤ) → lt_z a (pos 0) ≡ false → T (non_neg a)
 not_negative (pos n) h = tt
 not_negative (negsuc n) h = subst T h tt
 
-module _ (c : tie.Then1) where
+module _ (c : Then-a-lt0) where
   abbrev a : ℤ
   a = c.before.args.a
 
@@ -44,7 +44,7 @@ module _ (c : tie.Then1) where
   fits-a = c.before.ranges.a
 
   negative : lt_z a (pos 0) ≡ true
-  negative = rw (to_z-of_z fits-a) at c.if1.true
+  negative = rw (to_z-of_z fits-a) at c.if-a-lt0.true
 
   -- -(a + 1), as the machine reads its operands back
   rest-is : pos 0 -ℤ to_z w64 (of_z w64 (to_z w64 (of_z w64 a) +ℤ pos 1)) ≡ pos (mag a)
@@ -53,28 +53,22 @@ module _ (c : tie.Then1) where
   rest-fits : SFits w64 (pos (mag a))
   rest-fits = sfits_of fits-a.sfits
 
-add-result : tie.Need-overflow-add-result
-add-result c = simp (to_z-of_z (fits-a c), +ℤ_one) (suc-fits (a c) (fits-a c) (negative c))
+pub overflow_add-result : goal.overflow_add-result
+overflow_add-result c = simp (to_z-of_z (fits-a c), +ℤ_one) (suc-fits (a c) (fits-a c) (negative c))
 
-sub-result : tie.Need-overflow-sub-result
-sub-result c = rw (rest-is c) (rest-fits c)
+pub overflow_sub-result : goal.overflow_sub-result
+overflow_sub-result c = rw (rest-is c) (rest-fits c)
 
-cast-result : tie.Need-overflow-cast-result
-cast-result c = simp (rest-is c, to_z-of_z (rest-fits c)) (tt, omega (arith, (fits-a c).sfits))
+pub overflow_cast-result : goal.overflow_cast-result
+overflow_cast-result c = simp (rest-is c, to_z-of_z (rest-fits c)) (tt, omega (arith, (fits-a c).sfits))
 
-add-result-2 : tie.Need-overflow-add-result-2
-add-result-2 c = simp (rest-is c, to_z-of_z (rest-fits c)) (omega (arith, (fits-a c).sfits))
+pub overflow_add-result-then-a-lt0 : goal.overflow_add-result-then-a-lt0
+overflow_add-result-then-a-lt0 c = simp (rest-is c, to_z-of_z (rest-fits c)) (omega (arith, (fits-a c).sfits))
 
-cast-result-2 : tie.Need-overflow-cast-result-2
-cast-result-2 c =
+pub overflow_cast-result-else-a-lt0 : goal.overflow_cast-result-else-a-lt0
+overflow_cast-result-else-a-lt0 c =
     let fits-a = c.before.ranges.a in
-    rw (to_z-of_z fits-a) (not_negative c.before.args.a (rw (to_z-of_z fits-a) at c.if1.false), Fits-nat_abs tt fits-a)
+    rw (to_z-of_z fits-a) (not_negative c.before.args.a (rw (to_z-of_z fits-a) at c.if-a-lt0.false), Fits-nat_abs tt fits-a)
 
-returns : tie.Need-returns
-returns c = simp (rest-is c, to_z-of_z (rest-fits c)) (mag-nat_abs (a c) (negative c))
-
-returns-2 : tie.Need-returns-2
-returns-2 c = search rules
-
-pub magnitude-spec : {M : Type 1} → statement M
-magnitude-spec = tie.close (tie.spec add-result sub-result cast-result add-result-2 cast-result-2 returns returns-2)
+pub returns-then-a-lt0 : goal.returns-then-a-lt0
+returns-then-a-lt0 c = simp (rest-is c, to_z-of_z (rest-fits c)) (mag-nat_abs (a c) (negative c))

@@ -2,12 +2,8 @@
 -- Assumes nothing.
 use Rattle.algebra.specs.Polynomials.{is_zero_ℤ}
 use Rattle.integers.specs.Ranges.{of_z-zero}
-use Rattle.integers.proofs.is_zero.Statement.{statement}
-use Rattle.integers.proofs.is_zero.Tie as tie
+use Rattle.integers.proofs.is_zero.Goals as goal
 
-returns : tie.Need-returns
+pub returns : goal.returns
 unfolding is_zero_ℤ
 returns c = of_z-zero c.args.a c.ranges.a
-
-pub is-zero-spec : {M : Type 1} → statement M
-is-zero-spec = tie.close (tie.spec returns)

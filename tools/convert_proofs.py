@@ -1,0 +1,252 @@
+#!/usr/bin/env python3
+"""Turns the Proof.antt files of a crate to Invariants.antt and Answers.antt, by the names that `rt check --old-names` gives.
+
+usage: tools/convert_proofs.py CRATE [OLD]      at the top of the repository; the crates below CRATE are proved
+
+OLD is a checkout of the commit before the port (default /work/old/landed), whose files say which goal each answer was for. An answer that
+is `search rules` alone goes, since the check tries that itself. What the script cannot place stands at the file's end behind `-- left:`.
+"""
+import json
+import os
+import re
+import subprocess
+import sys
+
+WORD = r"[^\s(){}.;,@\"«»⌜⌝]+"
+TOKEN = re.compile(WORD)
+PATH = re.compile(rf"(?<![^\s(){{}};,«»])({WORD})((?:\.{WORD})+)|(?<=\))((?:\.{WORD})+)")
+HEAD = re.compile(r"^(?:use |--)")
+EARLIER = {"loop-holds": "loop-init", "loop-less": "loop-smaller", "loop-again": "loop-preserved"}
+
+
+def plain(name):
+    """A goal's or a step's name without the difference between a dash and an underscore, by its words of the kit before this one."""
+    name = name.replace("_", "-")
+    name = re.sub(r"^(.*loop\d*)-holds(-\d+)?$", r"\1-init\2", name)
+    name = re.sub(r"^(.*loop\d*)-less(-\d+)?$", r"\1-smaller\2", name)
+    return re.sub(r"^(.*loop\d*)-again(-\d+)?$", r"\1-preserved\2", name)
+
+
+def names_of(crate):
+    out = f"/tmp/names-{crate}"
+    subprocess.run(["rm", "-rf", out])
+    said = subprocess.run(["rt", "check", "--generated", out, "--old-names"], cwd=f"crates/{crate}", capture_output=True, text=True)
+    path = os.path.join(out, "names.json")
+    if not os.path.exists(path):
+        sys.exit(f"no names for {crate}: {said.stdout[-2000:]}{said.stderr[-2000:]}")
+    with open(path) as f:
+        return json.load(f)
+
+
+def pieces_of(text):
+    """The file's top-level pieces, parted at blank lines; an indented part goes on with the one before it."""
+    out = []
+    for part in re.split(r"(?<=\n)\n+", text):
+        if out and part[:1].isspace() and part.strip():
+            out[-1] += "\n" + part
+        elif part.strip():
+            out.append(part if part.endswith("\n") else part + "\n")
+    return out
+
+
+class Function:
+    def __init__(self, crate, function, entry, old_root, said):
+        self.crate, self.function, self.entry, self.said = crate, function, entry, said
+        self.folder = f"crates/{crate}/proofs/{function}"
+        self.module = f"Rattle.{crate}.proofs.{function.replace('/', '.')}"
+        with open(f"{self.folder}/Proof.antt") as f:
+            self.text = f.read()
+        with open(f"{old_root}/{self.folder}/Proof.antt") as f:
+            self.old_text = f.read()
+        self.needs = {plain(o): n for o, n in entry["needs"]}
+        self.labels, self.places, self.fields = {}, {}, {}
+        for place, new in zip(entry["places"], entry["places_by_name"]):
+            name, _, (old, now), _, renames = place[:5]
+            self.places[plain(name)] = new
+            if old:
+                if self.labels.get(plain(old), now) != now:
+                    self.tell(f"the step {old} is {self.labels[plain(old)]} and {now}")
+                self.labels[plain(old)] = now
+                self.fields.setdefault(plain(old), {}).update({plain(a): b for a, b in renames})
+        self.used = set()
+
+    def tell(self, text):
+        self.said.append(f"{self.function}: {text}")
+
+    def place(self, m):
+        new = self.places.get(plain(m[1]))
+        if new is None:
+            self.tell(f"no place now for {m[1]}")
+            return m[0]
+        self.used.add(new)
+        return new
+
+    def path(self, m):
+        base, steps = (m[1], m[2]) if m[1] else ("", m[3])
+        if base[:1].isupper() or base in ("tie", "goal"):
+            return m[0]
+        steps = steps[1:].split(".")
+        out, k = [], 0
+        while k < len(steps):
+            if steps[k] == "before" and k + 1 < len(steps) and any(s != "before" for s in steps[k:]):
+                k += 1
+                continue
+            step = plain(steps[k])
+            if step in self.labels:
+                out.append(self.labels[step])
+                k += 1
+                if k < len(steps):
+                    out.append(self.fields[step].get(plain(steps[k]), steps[k]))
+                    k += 1
+            else:
+                out.append(steps[k])
+                k += 1
+            out += steps[k:]
+            break
+        return base + "." + ".".join(out)
+
+    def turned(self, text):
+        text = re.sub(rf"\btie\.([A-Z][\w'-]*)((?: (?:invariant|decreases)-{WORD})*)", lambda m: m[0] if m[1].startswith("Need") else self.place(m), text)
+        return "".join(l if l.startswith(("use ", "--")) else PATH.sub(self.path, l) for l in text.splitlines(keepends=True))
+
+    def convert(self):
+        goals = re.findall(rf"\.Need-({WORD})", self.old_text)
+        if len(goals) != len(re.findall(rf"\.Need-{WORD}", self.text)):
+            self.tell("the goals before and now are not as many")
+            return
+        head, body, invariants, left = [], [], [], []
+        at = 0
+        for piece in pieces_of(self.text):
+            lines = piece.splitlines(keepends=True)
+            first = next((l for l in lines if not l.startswith("--")), "")
+            if HEAD.match(piece) and (not first or first.startswith("use ")):
+                uses = [l for l in lines if HEAD.match(l)]
+                head += uses
+                if len(uses) < len(lines):
+                    body.append("".join(l for l in lines if not HEAD.match(l)))
+                continue
+            if re.match(rf"pub {WORD} : \{{M : Type 1\}}", first):
+                continue
+            kind = re.match(rf"abbrev ({WORD}) : tie\.(invariant|decreases)-({WORD})", first)
+            if kind:
+                invariants.append((kind[1], kind[2], kind[3], piece))
+                continue
+            goal = re.match(rf"({WORD}) : tie\.Need-({WORD})", first)
+            if not goal:
+                body.append(piece)
+                continue
+            old = goals[at]
+            at += 1
+            k = lines.index(first)
+            rest = "".join(lines[k + 1:])
+            clause = re.search(rf"(?m)^{re.escape(goal[1])}((?: {WORD})*) =", rest)
+            new = self.needs.get(plain(old))
+            answer = rest[clause.end():].strip() if clause else None
+            if new is None or answer is None:
+                if answer not in ("search rules", "omega arith"):
+                    left.append(piece)
+                    self.tell(f"no goal now for {old}" if answer is not None else f"the answer {goal[1]} is not read")
+                continue
+            if answer == "search rules":
+                continue
+            args = " ".join(a for a in clause[1].split() if a != "κs")
+            rest = rest[:clause.start()] + f"{new} {args} =" + rest[clause.end():]
+            body.append("".join(lines[:k]) + f"pub {new} : goal.{new}\n{rest}")
+        self.write(head, body, invariants, left)
+
+    def write(self, head, body, invariants, left):
+        comment = "".join(l for l in head if l.startswith("--"))
+        uses = "".join(l for l in head if l.startswith("use ") and not re.match(rf"use {re.escape(self.module)}\.(Statement\.|Tie as)", l))
+        shared = self.shared(body, invariants)
+        if invariants:
+            parts = [self.public(self.turned(p)) for p in shared] + [self.invariant(*i) for i in invariants]
+            with open(f"{self.folder}/Invariants.antt", "w") as f:
+                f.write(comment + uses + f"use {self.module}.Given as goal\n\n" + "\n".join(parts))
+        rest = [self.turned(p) for p in body if p not in shared]
+        if any("goal." in p for p in rest) or left:
+            extra = f"use {self.module}.Goals as goal\n"
+            if self.used:
+                extra += f"use {self.module}.Goals.{{{', '.join(sorted(self.used))}}}\n"
+            if shared:
+                extra += f"use {self.module}.Invariants.{{{', '.join(sorted(n for p in shared for n in self.declared(p)))}}}\n"
+            with open(f"{self.folder}/Answers.antt", "w") as f:
+                f.write(comment + uses + extra + "\n" + "\n".join(rest))
+                for piece in left:
+                    f.write("\n" + "".join("-- left: " + l for l in piece.splitlines(keepends=True)))
+        os.remove(f"{self.folder}/Proof.antt")
+
+    def declared(self, piece):
+        out = []
+        for line in piece.splitlines():
+            m = re.match(rf"(?:(?:pub|abbrev|unfoldable|record|data) )*({WORD})(?: [({{].*)? :(?=\s|$)", line)
+            if m and not line.startswith(("--", "module ", " ")):
+                out.append(m[1])
+        return out
+
+    def shared(self, body, invariants):
+        """The pieces that the invariants speak of, in order."""
+        wanted = set()
+        for *_, piece in invariants:
+            wanted |= set(TOKEN.findall(piece))
+        taken = []
+        grew = True
+        while grew:
+            grew = False
+            for p in body:
+                if p not in taken and not re.match(r"pub \S+ : goal\.", p) and set(self.declared(p)) & wanted:
+                    taken.append(p)
+                    wanted |= set(TOKEN.findall(p))
+                    grew = True
+        return [p for p in body if p in taken]
+
+    def public(self, piece):
+        out = []
+        record = False
+        for line in piece.splitlines(keepends=True):
+            m = re.match(r"(abbrev |unfoldable )?(record |data )?(\S+)( .*)? :(\s|$)", line)
+            if m and not line.startswith((" ", "--", "pub ")):
+                record = bool(m[2])
+                line = (f"{m[1]}pub " + line[len(m[1]):]) if m[1] else "pub " + line
+            elif record and re.match(rf"  {WORD} :", line):
+                line = "  pub " + line[2:]
+            out.append(line)
+        return "".join(out)
+
+    def invariant(self, name, kind, loop, piece):
+        rest = piece[piece.index("\n", piece.index(" : tie.")) + 1:]
+        clause = re.search(rf"(?m)^{re.escape(name)}((?: {WORD})*) =", rest)
+        found = [(k, l) for k, l in enumerate(self.entry["loops"]) if plain(l[0][0]) == plain(loop)]
+        if not clause or not found:
+            self.tell(f"{name} is not read")
+            return "".join("-- left: " + l for l in piece.splitlines(keepends=True))
+        k, ((old, new), variables) = found[0]
+        changed = self.entry["changed"][k]
+        renames = self.fields.get(plain(old), {})
+        places = [(f"l.initial.{v}" if c else f"l.{v}") for v, c in zip(variables, changed)]
+        places += [f"l.{renames.get(plain(v), v)}" for v, c in zip(variables, changed) if c]
+        params = clause[1].split()
+        if len(params) != len(places):
+            self.tell(f"{name} has {len(params)} arguments for {len(places)} places")
+        table = dict(zip(params, places))
+        body = re.sub(rf"(?<![^\s(){{}};,«»]){WORD}", lambda m: table.get(m[0], m[0]), rest[clause.end():])
+        return f"abbrev pub {kind}-{new} : goal.{kind}-{new}\n{rest[:clause.start()]}{kind}-{new} l ={body}"
+
+
+def main():
+    crate = sys.argv[1]
+    old_root = sys.argv[2] if len(sys.argv) > 2 else "/work/old/landed"
+    names = names_of(crate)
+    said = []
+    for folder, dirs, files in os.walk(f"crates/{crate}/proofs"):
+        if "Proof.antt" in files:
+            function = os.path.relpath(folder, f"crates/{crate}/proofs")
+            key = f"Rattle-{crate}-proofs.{function.replace('/', '.')}.Lts"
+            if key in names:
+                Function(crate, function, names[key], old_root, said).convert()
+            else:
+                said.append(f"{function}: no names, by hand")
+    print("\n".join(said))
+
+
+if __name__ == "__main__":
+    main()
