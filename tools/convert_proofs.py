@@ -16,7 +16,8 @@ WORD = r"[^\s(){}.;,@\"«»⌜⌝]+"
 TOKEN = re.compile(WORD)
 PATH = re.compile(rf"(?<![^\s(){{}};,«»])({WORD})((?:\.{WORD})+)|(?<=\))((?:\.{WORD})+)")
 HEAD = re.compile(r"^(?:use |--)")
-EARLIER = {"loop-holds": "loop-init", "loop-less": "loop-smaller", "loop-again": "loop-preserved"}
+WORDS = {"pre": "requires", "inv": "invariant", "taken": "true", "left": "false", "last": "new", "fits": "ranges", "came": "branch", "type-inv": "type_inv"}
+FIELDS = {"result", "ensures", "requires", "new", "auto", "given", "true", "false", "invariant", "is", "branch", "type_inv"}
 
 
 def plain(name):
@@ -59,9 +60,14 @@ class Function:
         with open(f"{old_root}/{self.folder}/Proof.antt") as f:
             self.old_text = f.read()
         self.needs = {plain(o): n for o, n in entry["needs"]}
-        self.labels, self.places, self.fields = {}, {}, {}
-        for place, new in zip(entry["places"], entry["places_by_name"]):
-            name, _, (old, now), _, renames = place[:5]
+        self.labels, self.places, self.fields, self.clauses, self.params = {}, {}, {}, {}, {}
+        self.pre = (entry["pre"] or {}).get("fields")
+        for k, (place, new) in enumerate(zip(entry["places"], entry["places_by_name"])):
+            name, _, (old, now), callee, renames = place[:5]
+            if old and entry["clauses"][k]:
+                self.clauses[plain(old)] = entry["clauses"][k]["fields"]
+            if old and callee in entry["params"]:
+                self.params[plain(old)] = entry["params"][callee]
             self.places[plain(name)] = new
             if old:
                 if self.labels.get(plain(old), now) != now:
@@ -81,31 +87,69 @@ class Function:
         self.used.add(new)
         return new
 
+    def named(self, steps, fields, last_too=False):
+        """The first numbers of a path over clauses, or parameters, as the name that they reach."""
+        k = 0
+        while k < len(steps) and steps[k] == "1" and k < len(fields) - (0 if last_too else 1):
+            k += 1
+        if k >= len(fields):
+            return steps
+        if k == len(fields) - 1 and not last_too:
+            return [fields[k]] + steps[k:]
+        if k < len(steps) and steps[k] == "0":
+            return [fields[k]] + steps[k + 1:]
+        return steps
+
     def path(self, m):
         base, steps = (m[1], m[2]) if m[1] else ("", m[3])
         if base[:1].isupper() or base in ("tie", "goal"):
             return m[0]
-        steps = steps[1:].split(".")
+        steps = [WORDS.get(s, s) for s in steps[1:].split(".")]
         out, k = [], 0
         while k < len(steps):
             if steps[k] == "before" and k + 1 < len(steps) and any(s != "before" for s in steps[k:]):
                 k += 1
                 continue
             step = plain(steps[k])
-            if step in self.labels:
+            told = steps[k + 1] if k + 1 < len(steps) else ""
+            if step in self.labels and (told in FIELDS or step not in FIELDS and base in self.bases):
                 out.append(self.labels[step])
                 k += 1
                 if k < len(steps):
-                    out.append(self.fields[step].get(plain(steps[k]), steps[k]))
+                    field = self.fields[step].get(plain(steps[k]), steps[k])
+                    field = "type_inv" if field == "type-inv" else field
+                    out.append(field)
                     k += 1
+                    if field == "ensures" and step in self.clauses:
+                        out += self.named(steps[k:], self.clauses[step])
+                        break
+                    if field in ("new", "auto") and step in self.params:
+                        out += self.named(steps[k:], self.params[step], True)
+                        break
             else:
                 out.append(steps[k])
                 k += 1
+                if out[-1] == "requires" and self.pre:
+                    out += self.named(steps[k:], self.pre)
+                    break
             out += steps[k:]
             break
         return base + "." + ".".join(out)
 
+    def inlined(self, text):
+        """A `let` of clauses goes, and what it named stands in its places, so that their numbers can be read."""
+        while m := re.search(rf"(?m)let ({WORD}) = ({WORD}(?:\.{WORD})*\.(?:requires|ensures|new|auto)(?:\.[01])*) in[ \n]", text):
+            if len(re.findall(rf"(?:let|λ) {re.escape(m[1])}\b", text)) > 1:
+                self.tell(f"`{m[1]}` is bound twice")
+                break
+            rest = re.sub(rf"(?<![^\s(){{}};,«»]){re.escape(m[1])}(?![^\s(){{}}.;,«»])", m[2], text[m.end():])
+            text = text[:m.start()] + rest.lstrip()
+        return text
+
     def turned(self, text):
+        text = self.inlined(text)
+        self.bases = {"c"} | set(re.findall(rf"\(({WORD}) : tie\.", text))
+        self.bases |= set(re.findall(rf"let ({WORD}) = {WORD}(?:\.before)+ in", text))
         text = re.sub(rf"\btie\.([A-Z][\w'-]*)((?: (?:invariant|decreases)-{WORD})*)", lambda m: m[0] if m[1].startswith("Need") else self.place(m), text)
         return "".join(l if l.startswith(("use ", "--")) else PATH.sub(self.path, l) for l in text.splitlines(keepends=True))
 
@@ -150,9 +194,55 @@ class Function:
             if answer == "search rules":
                 continue
             args = " ".join(a for a in clause[1].split() if a != "κs")
-            rest = rest[:clause.start()] + f"{new} {args} =" + rest[clause.end():]
+            ended = self.recorded(rest[clause.end():], self.entry["asked"].get(old_name := next(o for o, n in self.entry["needs"] if n == new)), old_name)
+            rest = rest[:clause.start()] + f"{new} {args} =" + ended
             body.append("".join(lines[:k]) + f"pub {new} : goal.{new}\n{rest}")
         self.write(head, body, invariants, left)
+
+    def recorded(self, answer, fields, goal):
+        """An answer's last tuple as the record of the clauses that have names now."""
+        if not fields or len(fields) < 2:
+            return answer
+        text = answer.rstrip()
+        parts = self.tuple_at_end(text)
+        if parts is None:
+            self.tell(f"{goal}: no tuple for {', '.join(fields)}")
+            return answer
+        start, items = parts
+        while len(items) < len(fields):
+            more = self.tuple_at_end(items[-1])
+            if more is None or items[-1][:more[0]].strip():
+                break
+            items = items[:-1] + more[1]
+        if len(items) != len(fields):
+            self.tell(f"{goal}: {len(items)} parts for {', '.join(fields)}")
+            return answer
+        inner = "".join(f" {f} = {i.strip()};" for f, i in zip(fields, items))
+        return text[:start] + "record {" + inner + " }\n"
+
+    def tuple_at_end(self, text):
+        text = text.rstrip()
+        if not text.endswith(")"):
+            return None
+        depth, k = 0, len(text) - 1
+        cuts = []
+        while k >= 0:
+            if text[k] in ")}]":
+                depth += 1
+            elif text[k] in "({[":
+                depth -= 1
+                if depth == 0:
+                    break
+            elif text[k] == "," and depth == 1:
+                cuts.append(k)
+            k -= 1
+        before = text[:k].rstrip()
+        if before and not re.search(r"(?:=|\bin)$", before):
+            return None
+        cuts = [k] + cuts[::-1] + [len(text) - 1]
+        items = [text[a + 1:b] for a, b in zip(cuts, cuts[1:])]
+        items = [i for i in items if i.strip()]
+        return (k, items) if len(items) > 1 else None
 
     def write(self, head, body, invariants, left):
         comment = "".join(l for l in head if l.startswith("--"))
@@ -160,8 +250,15 @@ class Function:
         shared = self.shared(body, invariants)
         if invariants:
             parts = [self.public(self.turned(p)) for p in shared] + [self.invariant(*i) for i in invariants]
+            text = "\n".join(parts)
+            if "of_z" in text and not re.search(r"use mir\.Val\.\{[^}]*\bof_z\b", uses):
+                uses_here = uses + "use mir.Val.{of_z}\n"
+            else:
+                uses_here = uses
+            if "w64" in text and not re.search(r"\{[^}]*\bw64\b", uses_here):
+                uses_here += "use mir.Syntax.{w64}\n"
             with open(f"{self.folder}/Invariants.antt", "w") as f:
-                f.write(comment + uses + f"use {self.module}.Given as goal\n\n" + "\n".join(parts))
+                f.write(comment + uses_here + f"use {self.module}.Given as goal\n\n" + "\n".join(parts))
         rest = [self.turned(p) for p in body if p not in shared]
         if any("goal." in p for p in rest) or left:
             extra = f"use {self.module}.Goals as goal\n"
@@ -212,6 +309,10 @@ class Function:
             out.append(line)
         return "".join(out)
 
+    def unwrapped(self, text, place):
+        opens, closes = text.startswith("("), text.endswith(")")
+        return place if opens and closes else ("(" if opens else "") + place + (")" if closes else "")
+
     def invariant(self, name, kind, loop, piece):
         rest = piece[piece.index("\n", piece.index(" : tie.")) + 1:]
         clause = re.search(rf"(?m)^{re.escape(name)}((?: {WORD})*) =", rest)
@@ -228,7 +329,13 @@ class Function:
         if len(params) != len(places):
             self.tell(f"{name} has {len(params)} arguments for {len(places)} places")
         table = dict(zip(params, places))
-        body = re.sub(rf"(?<![^\s(){{}};,«»]){WORD}", lambda m: table.get(m[0], m[0]), rest[clause.end():])
+        bits = {v for v in params if f"to_z w64 {v}" in rest} | {v for v, q in zip(params, places) if q.endswith("-bits")}
+        body = rest[clause.end():]
+        for v in bits:
+            table[v] = table[v].removesuffix("-bits")
+            body = re.sub(rf"\(?\bto_z w64 {re.escape(v)}(?![^\s(){{}}.;,«»])\)?", lambda m: self.unwrapped(m[0], table[v]), body)
+        turn = lambda m: (f"(of_z w64 {table[m[0]]})" if m[0] in bits else table[m[0]]) if m[0] in table else m[0]
+        body = re.sub(rf"(?<![^\s(){{}};,«»]){WORD}", turn, body)
         return f"abbrev pub {kind}-{new} : goal.{kind}-{new}\n{rest[:clause.start()]}{kind}-{new} l ={body}"
 
 

@@ -46,7 +46,7 @@ Below n p = (k : ℕ) → nat_abs (get_or p k (pos 0)) < n
 -- ---- an i64 and its bits
 
 pub read_back : (a : ℤ) → mag a < 2 ^ 63 → to_z w64 (of_z w64 a) ≡ a
-read_back a h = to_z-of_z (sfits_of h)
+read_back a h = to_z-of_z {w = w64} (sfits_of h)
 
 -- The machine tests the bits.
 pub zero_bits : {a : ℤ} → SFits w64 a → of_z w64 a ≡ 0 → a ≡ pos 0

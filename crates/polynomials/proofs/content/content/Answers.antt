@@ -1,0 +1,9 @@
+-- `polynomials::content::content` meets its contract.
+-- Assumes nothing.
+use mathlib.Core.Path.{◌∙◌}
+use borrow.Author.Rules.{rules}
+use Rattle.algebra.specs.Gcd.{content, zero-gcd}
+use Rattle.polynomials.proofs.content.content.Goals as goal
+
+pub returns : goal.returns
+returns c = c.content_with.ensures ∙ zero-gcd (content c.args.p.now)
