@@ -11,6 +11,7 @@ pub(crate) const MOST_POWER: i64 = 2;
 
 // The unknowns, the highest derivative, the highest power of the variable, and the number of equations.
 #[derive(Drop)]
+#[derive(Clone, Copy)]
 pub(crate) struct Extent {
     pub unknowns: usize,
     pub order: usize,

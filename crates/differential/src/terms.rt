@@ -14,6 +14,7 @@ const FACTOR: i64 = 1048576;
 
 // A term that was read and the place after it, or a refusal.
 #[derive(Drop)]
+#[derive(Clone, Copy)]
 pub(crate) struct TermRead {
     pub refusal: u8,
     pub at: usize,

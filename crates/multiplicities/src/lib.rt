@@ -84,6 +84,7 @@ pub fn multiplicity(p: &[i64], r: i64) -> usize
 
 // Integer roots of a polynomial, ascending, each with how often it occurs: the first `count` of `values` and of `times`; the others are 0.
 #[derive(Drop)]
+#[derive(Clone, Copy)]
 pub struct RootsWith {
     pub count: usize,
     pub values: [i64; 16],

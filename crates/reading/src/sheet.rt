@@ -40,6 +40,7 @@ pub fn refused(refusal: u8) -> SheetResult
 
 // What a sheet begins with: its sizes, its equations and the number of its relations, or a refusal.
 #[derive(Drop)]
+#[derive(Clone, Copy)]
 pub(crate) struct SheetHead {
     pub refusal: u8,
     pub at: usize,

@@ -29,6 +29,7 @@ pub const SPAN: usize = BLOCKS - 1;
 // How far a run has come: the rows that are left, the settled ones with their columns, counted from 0, the relations listed and the
 // shifts made.
 #[derive(Drop)]
+#[derive(Clone, Copy)]
 pub struct Progress {
     pub rows: usize,
     pub settled: usize,

@@ -24,6 +24,7 @@ use sides::Side;
 // which, 0 where there is none, the rank, and how often the root occurs in the product of the diagonal polynomials, 0 where there is
 // none (SCOPE 2.82, 2.83, 3.22, 3.23).
 #[derive(Drop)]
+#[derive(Clone, Copy)]
 pub struct RunResult {
     pub refusal: u8,
     pub relations: usize,

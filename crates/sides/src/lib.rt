@@ -5,6 +5,7 @@ pub mod report;
 
 // The side that is made triangular: block l, or block t (SCOPE 2.71, 2.93).
 #[derive(Drop)]
+#[derive(Clone, Copy)]
 pub enum Side {
     Leading,
     Trailing,

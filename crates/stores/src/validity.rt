@@ -10,6 +10,7 @@ use crate::lengths::{RELATION, RELATIONS, ROW};
 
 // m unknowns, so many equations, blocks from t to l (SCOPE 1.1, 1.2).
 #[derive(Drop)]
+#[derive(Clone, Copy)]
 pub struct Sizes {
     pub m: usize,
     pub equations: usize,

@@ -116,6 +116,7 @@ fn read_token(bytes: &[u8], at: usize, from: usize, d: Digits, right: bool) -> T
 
 // A number that was read and the place after it, or a refusal.
 #[derive(Drop)]
+#[derive(Clone, Copy)]
 pub struct NumberRead {
     pub refusal: u8,
     pub value: i64,
@@ -202,6 +203,7 @@ fn with_digit(bytes: &[u8], from: usize, d: Digits) -> Digits
 
 // A number that was read, and the place after it.
 #[derive(Drop)]
+#[derive(Clone, Copy)]
 pub struct Found {
     pub value: i64,
     pub at: usize,
