@@ -1,4 +1,6 @@
 // A coefficient of g·p + h·q, and products added to what a place holds.
+#![tactic(auto)]
+
 ghost use Rattle.std.specs.Prelude.{◌≡◌, ◌+◌, ◌*◌, ◌≤◌, ◌<◌, T, nat_abs, ◌+ℤ◌, ◌*ℤ◌, length};
 ghost use Rattle.algebra.specs.Polynomials.{coeff, add, scale, mul};
 ghost use Rattle.rules.specs.Limits.{bound, small, coefficient_count};

@@ -1,7 +1,6 @@
 -- `products::add_multiple` meets its contract.
 -- Assumes nothing.
 use mathlib.Core.Path.{◌∙◌, ap}
-use borrow.Author.Rules.{rules}
 use mir.Facts.{to_z-of_z}
 use Rattle.algebra.specs.Polynomials.{add, scale}
 use Rattle.products.proofs.add_multiple.Goals as goal

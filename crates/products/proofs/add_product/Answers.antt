@@ -5,19 +5,15 @@ use mathlib.Core.Path.{◌≡◌, refl, sym, ◌∙◌, ap, ap₂, subst}
 use mathlib.Core.List.{List, ◌++◌, append_assoc}
 use Prim.Native.Nat.{ℕ, ◌+◌, ◌-◌, ◌*◌, ◌≤◌, ◌<◌}
 use native.Mathlib.Omega.{arith}
-use borrow.Author.Rules.{rules}
 use borrow.Rule.Slice.PartMut.{put_mid, same_len_mid}
-use lib.Dec.{T}
 use lib.IntN.{ℤ, pos, nat_abs}
 use lib.ListN.{length, get_or, take, drop, length-drop, drop_of_length-le, take-append-drop}
 use lib.Seq.{take-add, drop-drop, take_at, drop_at, length-take-le}
-use mir.Syntax.{w64}
-use mir.Val.{of_z, to_z}
-use Rattle.lists.specs.Tests.{every, every-get_or}
+use Rattle.lists.specs.Tests.{every-get_or}
 use Rattle.lists.specs.Taken.{drop-next}
 use Rattle.algebra.specs.Polynomials.{Polynomial, add, scale, mul, add-nil}
-use Rattle.rules.specs.Limits.{bound, small, coefficient_count}
-use Rattle.polynomials.specs.Content.{Below, read_back}
+use Rattle.rules.specs.Limits.{bound, small}
+use Rattle.polynomials.specs.Content.{read_back}
 use Rattle.products.specs.Product.{product-next, added-part, below-part, below_next}
 use Rattle.products.proofs.add_product.Goals as goal
 use Rattle.products.proofs.add_product.Goals.{At-loop-i, In-loop-i, Start}
@@ -107,14 +103,13 @@ add_multiple-requires c =
 pub loop-i-preserved : goal.loop-i-preserved
 unfolding small
 loop-i-preserved c =
-    let call = c.before.before.before.before in
-    let d = call in
+    let d = c.before.before.before.before in
     let a = get_or (g d) (i d) (pos 0) in
-    let back = read_back a call.add_multiple-arg-in-loop-i-1.given in
-    let whole = put d a call.add_multiple.new.place
-    (call.add_multiple.ensures ∙ ap (λ z. add (take (width d) (drop (i d) (place d))) (scale z (p d))) back) in (
+    let back = read_back a c.add_multiple-arg-in-loop-i-1.given in
+    let whole = put d a c.add_multiple.new.place
+    (c.add_multiple.ensures ∙ ap (λ z. add (take (width d) (drop (i d) (place d))) (scale z (p d))) back) in (
       omega (arith, d.loop-i-test.true),
-      same_len_mid (i d) (width d) (place d) call.add_multiple.new.place call.add_multiple.auto.place ∙ (at d).loop-i.invariant.1,
+      same_len_mid (i d) (width d) (place d) c.add_multiple.new.place c.add_multiple.auto.place ∙ (at d).loop-i.invariant.1,
       next d ∙ ap (λ l. take (i d + 1) l ++ add (drop (i d + 1) l) (mul (drop (i d + 1) (g d)) (p d))) (sym whole),
       λ k. subst (λ l. nat_abs (get_or l k (pos 0)) < (16 + (i d + 1)) * (bound * bound) + 1) (sym whole)
           (omega (

@@ -3,18 +3,17 @@
 -- Assumes nothing.
 use mathlib.Core.Path.{◌≡◌, refl, ◌∙◌}
 use mathlib.Core.List.{List}
-use Prim.Native.Nat.{ℕ, ◌-◌, ◌<◌}
+use Prim.Native.Nat.{ℕ, ◌<◌}
 use native.Mathlib.Omega.{arith}
-use borrow.Author.Rules.{rules}
 use lib.IntN.{ℤ, pos}
-use lib.ListN.{length, get_or, drop}
+use lib.ListN.{length}
 use mir.Syntax.{w64}
 use mir.Val.{of_z, to_z}
 use mir.Facts.{to_z-of_z}
 use Rattle.algebra.specs.Polynomials.{add, scale, length-add, length-scale}
 use Rattle.polynomials.specs.Content.{read_back}
 use Rattle.products.specs.Product.{multiple-fits, multiple-is}
-use Rattle.lists.specs.Taken.{Overwritten, overwritten-next, overwritten-all, suffix-next}
+use Rattle.lists.specs.Taken.{overwritten-next, overwritten-all, suffix-next}
 use Rattle.products.proofs.add_scaled.Goals as goal
 use Rattle.products.proofs.add_scaled.Goals.{At-loop-k, In-loop-k, Start}
 

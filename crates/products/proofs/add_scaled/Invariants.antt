@@ -1,20 +1,11 @@
 -- `products::add_scaled` meets its contract. The loop's invariant: the first k numbers are the sums and the others are as they
 -- were.
 -- Assumes nothing.
-use mathlib.Core.Path.{◌≡◌, refl, ◌∙◌}
-use mathlib.Core.List.{List}
-use Prim.Native.Nat.{ℕ, ◌-◌, ◌<◌}
-use native.Mathlib.Omega.{arith}
-use borrow.Author.Rules.{rules}
-use lib.IntN.{ℤ, pos}
-use lib.ListN.{length, get_or, drop}
-use mir.Syntax.{w64}
-use mir.Val.{of_z, to_z}
-use mir.Facts.{to_z-of_z}
-use Rattle.algebra.specs.Polynomials.{add, scale, length-add, length-scale}
-use Rattle.polynomials.specs.Content.{read_back}
-use Rattle.products.specs.Product.{multiple-fits, multiple-is}
-use Rattle.lists.specs.Taken.{Overwritten, overwritten-next, overwritten-all, suffix-next}
+use mathlib.Core.Path.{◌≡◌}
+use Prim.Native.Nat.{◌-◌}
+use lib.ListN.{length, drop}
+use Rattle.algebra.specs.Polynomials.{add, scale}
+use Rattle.lists.specs.Taken.{Overwritten}
 use Rattle.products.proofs.add_scaled.Given as goal
 
 abbrev pub invariant-loop-k : goal.invariant-loop-k

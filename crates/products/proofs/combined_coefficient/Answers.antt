@@ -4,7 +4,6 @@
 use mathlib.Core.Path.{◌≡◌, sym, ◌∙◌, ap₂}
 use Prim.Native.Nat.{◌*◌, ◌≤◌}
 use native.Mathlib.Omega.{arith}
-use borrow.Author.Rules.{rules}
 use lib.Dec.{lit<}
 use lib.IntN.{ℤ, nat_abs, ◌+ℤ◌}
 use mir.Syntax.{w64}
@@ -44,4 +43,4 @@ returns c =
     let args = c.args in
     let g·p = mul args.g.now args.p.now in
     let h·q = mul args.h.now args.q.now in
-    rw (sum_is c, to_z-of_z (sum_fits c)) record { value = ap₂ ◌+ℤ◌ c.product_coefficient.ensures.value c.product_coefficient-2.ensures.value ∙ sym (coeff-add g·p h·q args.k); result_bound = sum-size c; }
+    rw (sum_is c, to_z-of_z (sum_fits c)) record { value = ap₂ ◌+ℤ◌ c.product_coefficient.ensures.value c.product_coefficient-2.ensures.value ∙ sym (coeff-add g·p h·q args.k); result_bound = sum-size c }

@@ -3,11 +3,9 @@
 -- Assumes nothing.
 use mathlib.Core.Path.{◌≡◌, sym, ◌∙◌, ap, ap₂}
 use mathlib.Core.List.{List}
-use mathlib.Core.Logic.{⊎_elim}
-use Prim.Native.Nat.{ℕ, ◌+◌, ◌-◌, ◌≤◌, min}
+use Prim.Native.Nat.{ℕ, ◌+◌, ◌-◌, min}
 use native.Mathlib.Numerals.{add-one}
 use native.Mathlib.Omega.{arith}
-use borrow.Author.Rules.{rules}
 use lib.Dec.{lit<}
 use lib.IntN.{ℤ, pos, ◌*ℤ◌, ◌+ℤ◌}
 use lib.ListN.{length, get_or}
@@ -88,4 +86,4 @@ returns c =
     let g = c.args.g.now in
     let p = c.args.p.now in
     let is = loop.invariant.3 ∙ sum-all g p c.args.k loop.i (omega arith) loop.invariant.0 in
-    record { value = is; result_bound = rw is (product-size g p c.requires.1 c.requires.2 c.args.k coefficient_count c.requires.0); }
+    record { value = is; result_bound = rw is (product-size g p c.requires.1 c.requires.2 c.args.k coefficient_count c.requires.0) }
