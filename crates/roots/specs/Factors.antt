@@ -223,9 +223,13 @@ pub data Run (q : ℕ) : List ℕ → List ℕ → Type 0 where
   stop : {l : List ℕ} → Run q l l
   pass : {l m : List ℕ} → Run q l m → Run q (q ∷ l) m
 
+-- Where what comes after the run is known to begin with q.
+run-next-of : {q : ℕ} {m l k : List ℕ} → Run q l k → k ≡ q ∷ m → Run q l m
+run-next-of {q} {m} stop e = subst (λ l. Run q l m) (sym e) (pass stop)
+run-next-of (pass r) e = pass (run-next-of r e)
+
 pub run-next : {q : ℕ} {l m : List ℕ} → Run q l (q ∷ m) → Run q l m
-run-next stop = pass stop
-run-next (pass r) = pass (run-next r)
+run-next r = run-next-of r refl
 
 run-simple : {n q : ℕ} {l m : List ℕ} → Run q l m → AllSimple n l → AllSimple n m
 run-simple stop s = s

@@ -1,14 +1,9 @@
 -- `roots::after_run` meets its contract. The invariant: the factors from `from` on are those from `next` on after some equal
 -- to the first. The measure is the number of factors left.
 -- Assumes nothing.
-use mathlib.Core.Path.{◌≡◌, refl, ◌∙◌, ap, subst}
-use mathlib.Core.List.{List, ◌∷◌}
-use Prim.Native.Nat.{ℕ, ◌+◌, ◌-◌, ◌≤◌, ◌<◌}
-use native.Mathlib.Omega.{arith}
-use borrow.Author.Rules.{rules}
-use lib.ListN.{length, get_or, drop}
-use Rattle.roots.specs.Factors.{Run, stop, run-next}
-use Rattle.lists.specs.Taken.{drop-next}
+use Prim.Native.Nat.{◌-◌, ◌≤◌, ◌<◌}
+use lib.ListN.{length, drop}
+use Rattle.roots.specs.Factors.{Run}
 use Rattle.roots.proofs.after_run.Given as goal
 
 abbrev pub invariant-loop-next : goal.invariant-loop-next

@@ -1,12 +1,10 @@
 -- `roots::beside_gap` meets its contract: no root lies in the gap, and none reaches the limit.
 -- Assumes nothing.
 use mathlib.Core.Path.{sym, subst}
-use mathlib.Core.Logic.{⊎_elim}
 use mathlib.Core.List.{List}
 use Prim.Native.Nat.{◌≤◌}
 use native.Mathlib.Nat.{div-le_self}
 use native.Mathlib.Omega.{arith}
-use borrow.Author.Rules.{rules}
 use lib.IntN.{ℤ}
 use Rattle.rules.specs.Limits.{bound}
 use Rattle.roots.specs.Bound.{RootsBelow, NoneBetween, none-roots}
@@ -33,9 +31,12 @@ module _ (c : Joined-high-eq-PAST) where
 
   limited : RootsBelow p c.if-high-eq-PAST.limit
   limited =
-      elim c.if-high-eq-PAST.branch [ then-high-eq-PAST w ↦ 
-      let above = subst (NoneBetween p 16384) w.if-high-eq-PAST.true at_high.high_end-high.ensures.1 in
-      subst (RootsBelow p) (sym w.1) (none-roots p start.args.low 16384 268435456 start.requires.6 above all_small) | else-high-eq-PAST w ↦ subst (RootsBelow p) (sym w.1) all_small ]
+      elim c.if-high-eq-PAST.branch [
+        | then-high-eq-PAST w ↦
+            let above = subst (NoneBetween p 16384) w.if-high-eq-PAST.true at_high.high_end-high.ensures.1 in
+            subst (RootsBelow p) (sym w.limit-is) (none-roots p start.args.low 16384 268435456 start.requires.6 above all_small)
+        | else-high-eq-PAST w ↦ subst (RootsBelow p) (sym w.limit-is) all_small
+      ]
 
   paired : Paired p start.args.a c.larger_of-few.result
   paired =

@@ -3,7 +3,6 @@
 use mathlib.Core.Path.{sym, subst}
 use Prim.Native.Nat.{◌≤◌, zero-le}
 use native.Mathlib.Omega.{arith}
-use borrow.Author.Rules.{rules}
 use lib.Seq.{length-take-le}
 use Rattle.algebra.specs.Vanishing.{lowest-positive}
 use Rattle.rules.specs.Limits.{bound}

@@ -4,14 +4,13 @@
 use mathlib.Core.Path.{◌≡◌, ◌∙◌, ap}
 use mathlib.Core.Logic.{◌⊎◌}
 use mathlib.Core.List.{List, []}
-use Prim.Native.Nat.{ℕ, ◌+◌, ◌-◌, ◌/◌, ◌≤◌, ◌<◌}
+use Prim.Native.Nat.{ℕ, ◌+◌, ◌/◌, ◌≤◌}
 use native.Mathlib.Nat.{div-le_self}
 use native.Mathlib.Omega.{arith}
-use borrow.Author.Tests.{ltb-false}
 use lib.IntN.{ℤ, pos, nat_abs}
 use lib.ListN.{length}
 use Rattle.rules.specs.Limits.{bound}
-use Rattle.roots.specs.RootSearch.{Found, Holds, Passed, held, listed, try_root, try_both, held_of, listed-held, holds-list}
+use Rattle.roots.specs.RootSearch.{Found, Passed, held, listed, try_root, try_both, held_of, listed-held, holds-list}
 use Rattle.roots.specs.RootSearch.{found-length, found-both, lowest-small}
 use Rattle.roots.specs.RootSearch.{pairs_start, pairs-divisor, found-new, pairs_end, pairs-few}
 use Rattle.roots.proofs.by_pairs.Goals as goal
@@ -123,9 +122,8 @@ pub returns-else-d-few : goal.returns-else-d-few
 returns-else-d-few c =
     let head = c.before.before in
     let s = start head in
-    let past = ltb-false (d head) s.args.few c.if-d-few.false-raw in
     head.loop-d.invariant.1.exact
-    ∙ ap listed (pairs-few (p head) s.requires.3 (a head) s.requires.4 s.args.few (d head) (found head) s.requires.5 past (state head))
+    ∙ ap listed (pairs-few (p head) s.requires.3 (a head) s.requires.4 s.args.few (d head) (found head) s.requires.5 c.if-d-few.false (state head))
 
 pub returns-after-loop-d : goal.returns-after-loop-d
 returns-after-loop-d c =

@@ -2,18 +2,17 @@
 -- grows, which is at most the rest.
 -- Assumes nothing.
 use mathlib.Core.Path.{refl}
-use mathlib.Core.Logic.{inl, inr, ⊎_elim}
-use Prim.Native.Nat.{ℕ, ◌-◌, ◌*◌, ◌≤◌, ◌<◌}
+use mathlib.Core.Logic.{◌⊎◌, inl, inr}
+use Prim.Native.Nat.{ℕ, ◌/◌, ◌≤◌, ◌<◌}
 use native.Mathlib.Nat.{div-le_self, div-lt_self, div-mul-le_self}
 use native.Mathlib.Omega.{arith}
-use borrow.Author.Tests.{ltb-false}
 use lib.ListN.{length}
 use Rattle.rules.specs.Limits.{bound}
 use Rattle.roots.specs.Factors.{Factoring, factoring-start, factoring-take, factoring-pass, factoring-last, factoring-done}
-use Rattle.roots.specs.Factors.{Gap, two, gap-bounds, rest-positive, rest-small, few-factors}
-use Rattle.roots.specs.RootSearch.{the_factors_of, Sized}
+use Rattle.roots.specs.Factors.{two, gap-bounds, rest-positive, rest-small, few-factors}
+use Rattle.roots.specs.RootSearch.{the_factors_of}
 use Rattle.roots.proofs.factors.Goals as goal
-use Rattle.roots.proofs.factors.Goals.{At-loop-q, else-loop-q-test, then-loop-q-test}
+use Rattle.roots.proofs.factors.Goals.{At-loop-q, else-loop-q-test, then-loop-q-test+else-q-limit}
 
 module _ (c : At-loop-q) where
   abbrev rest : ℕ
@@ -89,6 +88,7 @@ returns-then-rest-eq1 c = (c.loop-q.invariant.0, factoring-done (state c.before.
 pub returns-else-rest-eq1 : goal.returns-else-rest-eq1
 returns-else-rest-eq1 c =
     let head = c.before.before.before in
-    let end = elim c.loop-q-test.branch [ then-loop-q-test w ↦ inr (ltb-false (q head) _ w.1.false) | else-loop-q-test w ↦ inl w.false ] in
+    let end : (rest head / q head < q head) ⊎ (c.args.limit ≤ q head) =
+    elim c.loop-q-test.branch [ then-loop-q-test+else-q-limit w ↦ inr w.if-q-limit.false | else-loop-q-test w ↦ inl w.loop-q-test.false ] in
     let last = factoring-last (state head) (omega (arith, positive head)) end in
     (c.with_factor.ensures.0, rw c.with_factor.ensures.1 last)

@@ -1,10 +1,9 @@
 -- `roots::has_root` meets its contract.
 -- Assumes nothing.
 use mathlib.Core.Bool.{true≢false}
-use Prim.Native.Nat.{◌/◌, ◌≤◌}
+use Prim.Native.Nat.{◌≤◌}
 use native.Mathlib.Nat.{div-le_self, div-mul-le_self}
 use native.Mathlib.Omega.{arith}
-use borrow.Author.Rules.{rules}
 use Rattle.rules.specs.Limits.{bound}
 use Rattle.roots.specs.RootSearch.{lowest-small, pairs-other, pairs-none}
 use Rattle.roots.proofs.has_root.Goals as goal

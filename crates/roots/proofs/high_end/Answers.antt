@@ -1,8 +1,6 @@
 -- `roots::high_end` meets its contract. The measure is m.
 -- Assumes nothing.
-use Prim.Native.Nat.{◌≤◌, ◌<◌}
 use native.Mathlib.Omega.{arith}
-use borrow.Author.Rules.{rules}
 use Rattle.roots.specs.Bound.{none-empty}
 use Rattle.roots.proofs.high_end.Goals as goal
 

@@ -2,7 +2,6 @@
 -- among the values from i to n, are the whole; the places from n on are still 0. The measure is n - i.
 -- Assumes nothing.
 use mathlib.Core.Path.{◌≡◌, refl, sym, ◌∙◌, ap, ap₂, subst, subst⁻¹}
-use mathlib.Core.Logic.{⊎_elim}
 use mathlib.Core.Bool.{true, false, not}
 use mathlib.Core.List.{List, [], ◌∷◌, ◌++◌}
 use Prim.Native.Nat.{ℕ, suc, ◌+◌, ◌-◌, ◌≤◌, ◌<◌, zero-le}
@@ -16,7 +15,7 @@ use lib.Seq.{slice, take-set-lt, take-take, length-take-le, drop_at, slice-cons,
 use lib.Seq.{set_split, append_snoc, drop-drop}
 use mir.Syntax.{w64}
 use mir.Val.{Fits, SFits, of_z, to_z}
-use mir.Facts.{to_z-of_z, of_z-to_z, Fits-of_z}
+use mir.Facts.{to_z-of_z, of_z-to_z}
 use Rattle.algebra.specs.Order.{≤ℤ-≢-<ℤ}
 use Rattle.roots.specs.declared.RootList.{RootList}
 use Rattle.roots.specs.RootSearch.{held, listed}
@@ -151,7 +150,7 @@ module _ (c : At-loop-i) where
   whole = insert c.args.r (held c.args.found)
 
   state : Inserting n whole c.loop-i.v (to_z w64 c.loop-i.x-bits) c.loop-i.i
-  state = rw (to_z-of_z c.ranges.r) at c.loop-i.invariant.1
+  state = rw (to_z-of_z c.ranges.r) at c.loop-i.invariant
 
 fits-y : (c : After-y-1) → SFits w64 (y (state c.before.before))
 fits-y c = record { sfits = c.y-1.given }
@@ -159,13 +158,13 @@ fits-y c = record { sfits = c.y-1.given }
 pub loop-i-init : goal.loop-i-init
 loop-i-init c =
     let fits = c.ranges.r in
-    (Fits-of_z fits, simp (to_z-of_z fits) (start c.args.found c.args.r c.requires.0 c.requires.1))
+    simp (to_z-of_z fits) (start c.args.found c.args.r c.requires.0 c.requires.1)
 
 pub offset_bounds-v-i : goal.offset_bounds-v-i
-offset_bounds-v-i c = omega (arith, c.loop-i.invariant.1.within)
+offset_bounds-v-i c = omega (arith, c.loop-i.invariant.within)
 
 pub bounds-v-i : goal.bounds-v-i
-bounds-v-i c = omega (arith, c.loop-i.invariant.1.within)
+bounds-v-i c = omega (arith, c.loop-i.invariant.within)
 
 pub returns-then-x-y : goal.returns-then-x-y
 returns-then-x-y c =
@@ -173,13 +172,13 @@ returns-then-x-y c =
     end-here (state head) c.loop-i-test.true (ap (to_z w64) c.if-x-y.true ∙ to_z-of_z (fits-y c.before))
 
 pub offset_bounds-v-i-then-x-y-2 : goal.offset_bounds-v-i-then-x-y-2
-offset_bounds-v-i-then-x-y-2 c = omega (arith, c.loop-i.invariant.1.within)
+offset_bounds-v-i-then-x-y-2 c = omega (arith, c.loop-i.invariant.within)
 
 pub bounds-v-i-then-x-y-2 : goal.bounds-v-i-then-x-y-2
-bounds-v-i-then-x-y-2 c = omega (arith, c.loop-i.invariant.1.within)
+bounds-v-i-then-x-y-2 c = omega (arith, c.loop-i.invariant.within)
 
 pub overflow_add-i : goal.overflow_add-i
-overflow_add-i c = omega (arith, c.loop-i.invariant.1.within)
+overflow_add-i c = omega (arith, c.loop-i.invariant.within)
 
 pub loop-i-smaller : goal.loop-i-smaller
 loop-i-smaller c = omega (arith, c.loop-i-test.true)
@@ -192,17 +191,20 @@ loop-i-preserved c =
     let fits-r = head.ranges.r in
     let below = next-below (state head) more in
     let above = next-above (state head) more in
-    let other = test-above head.loop-i.invariant.0 fits c.if-x-y.false in
-    elim c.if-x-y-2.branch [ then-x-y-2 w ↦ rw (w.1, w.2) (Fits-of_z fits, simp (to_z-of_z fits, to_z-of_z fits-r) (below (test_below fits w.if-x-y-2.true))) | else-x-y-2 w ↦ rw (w.1, w.2) (head.loop-i.invariant.0, rw (to_z-of_z fits-r) (above (other w.if-x-y-2.false))) ]
+    let other = test-above head.loop-i.auto.x-fits fits c.if-x-y.false in
+    elim c.if-x-y-2.branch [
+      | then-x-y-2 w ↦ rw (w.v-is, w.x-is) (simp (to_z-of_z fits, to_z-of_z fits-r) (below (test_below fits w.if-x-y-2.true)))
+      | else-x-y-2 w ↦ rw (w.v-is, w.x-is) (rw (to_z-of_z fits-r) (above (other w.if-x-y-2.false)))
+    ]
 
 pub offset_bounds-v-n : goal.offset_bounds-v-n
-offset_bounds-v-n c = omega (arith, c.loop-i.invariant.1.within)
+offset_bounds-v-n c = omega (arith, c.loop-i.invariant.within)
 
 pub bounds-v-n : goal.bounds-v-n
 bounds-v-n c = omega (arith, length_last (state c.before) c.loop-i-test.false, c.requires.1)
 
 pub overflow_add-result : goal.overflow_add-result
-overflow_add-result c = omega (arith, c.loop-i.invariant.1.within)
+overflow_add-result c = omega (arith, c.loop-i.invariant.within)
 
 pub returns : goal.returns
 returns c = end-last (state c.before) c.loop-i-test.false c.requires.1

@@ -6,9 +6,9 @@ use mathlib.Core.Bool.{true}
 use Prim.Native.Nat.{◌-◌, ◌<◌, ◌≤◌}
 use native.Mathlib.Nat.{pos_of_ne-zero}
 use native.Mathlib.Omega.{arith}
-use borrow.Author.Rules.{rules}
 use lib.IntN.{ℤ, pos}
 use lib.ListN.{length, get_or}
+use mir.Syntax.{w64}
 use mir.Facts.{to_z-of_z}
 use Rattle.algebra.specs.Roots.{roots}
 use Rattle.rules.specs.Elimination.{leading}
@@ -41,5 +41,5 @@ returns-else-n-eq0 c =
     let some : 0 < length (l call) = subst (λ n. 0 < n) (count call) (pos_of_ne-zero c.if-n-eq0.false) in
     let last = listed-get_or (l call) call.roots-all.ensures (call.roots-all.result.count - 1) (omega (arith, count call)) in
     let same = ap (λ n. get_or (l call) (n - 1) (pos 0)) (count call) in
-    ap (λ z. record { found = true; root = z }) (to_z-of_z (record { sfits = c.result-1.given }) ∙ last ∙ same)
+    ap (λ z. record { found = true; root = z }) (to_z-of_z {w = w64} (record { sfits = c.result-1.given }) ∙ last ∙ same)
     ∙ sym (answered-last (l call) (roots-ascend call.args.p.now) some)

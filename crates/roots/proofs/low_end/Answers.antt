@@ -1,8 +1,6 @@
 -- `roots::low_end` meets its contract. The measure is what n is below 2^9.
 -- Assumes nothing.
-use Prim.Native.Nat.{◌-◌, ◌≤◌}
 use native.Mathlib.Omega.{arith}
-use borrow.Author.Rules.{rules}
 use Rattle.roots.proofs.low_end.Goals as goal
 
 pub none_between-requires : goal.none_between-requires

@@ -1,12 +1,11 @@
 -- `roots::next_pair` meets its contract. The invariant: from `from` to d no root is passed. The measure falls because d is at most a / d,
 -- and so at most a.
 -- Assumes nothing.
-use Prim.Native.Nat.{◌+◌, ◌-◌, ◌/◌, ◌≤◌}
+use Prim.Native.Nat.{◌≤◌}
 use native.Mathlib.Nat.{div-le_self}
 use native.Mathlib.Omega.{arith}
-use borrow.Author.Rules.{rules}
 use Rattle.rules.specs.Limits.{bound}
-use Rattle.roots.specs.RootSearch.{NothingNew, lowest-small}
+use Rattle.roots.specs.RootSearch.{lowest-small}
 use Rattle.roots.proofs.next_pair.Goals as goal
 use Rattle.roots.proofs.next_pair.Goals.{In-loop-d, Start}
 

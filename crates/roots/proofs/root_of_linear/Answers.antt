@@ -5,7 +5,6 @@ use mathlib.Core.List.{List, []}
 use Prim.Native.Nat.{◌≤◌}
 use native.Mathlib.Nat.{le_trans, le_of_eq}
 use native.Mathlib.Omega.{arith}
-use borrow.Author.Rules.{rules}
 use lib.Dec.{lit≤}
 use lib.IntN.{ℤ, pos, neg_ℤ, nat_abs, ◌-ℤ◌, +ℤ_idl}
 use lib.ListN.{get_or}
@@ -62,8 +61,7 @@ overflow_sub-quotient c = rw (candidate c.before.before) (candidate-fits c.befor
 
 pub tried-requires : goal.tried-requires
 tried-requires c =
-    let s = c.before.before.before in
-    (
+    let s = c.before.before.before in (
       s.requires.0,
       s.requires.1,
       linear-top (p s) s.requires.2,

@@ -1,6 +1,5 @@
 -- `roots::searched` meets its contract.
 -- Assumes nothing.
-use borrow.Author.Rules.{rules}
 use Rattle.roots.proofs.searched.Goals as goal
 
 pub beside_gap-requires : goal.beside_gap-requires

@@ -5,9 +5,9 @@ use mathlib.Core.List.{List}
 use mathlib.Core.Bool.{true}
 use Prim.Native.Nat.{◌<◌}
 use native.Mathlib.Nat.{pos_of_ne-zero}
-use borrow.Author.Rules.{rules}
 use lib.IntN.{ℤ}
 use lib.ListN.{length}
+use mir.Syntax.{w64}
 use mir.Facts.{to_z-of_z}
 use Rattle.algebra.specs.Roots.{roots}
 use Rattle.rules.specs.Elimination.{trailing}
@@ -30,5 +30,5 @@ returns-else-all-eq0 c =
     let call = c.before.before in
     let some : 0 < length (l call) = subst (λ n. 0 < n) (count call) (pos_of_ne-zero c.if-all-eq0.false) in
     let first = listed-get_or (l call) call.roots-all.ensures 0 some in
-    ap (λ z. record { found = true; root = z }) (to_z-of_z (record { sfits = c.result-1.given }) ∙ first)
+    ap (λ z. record { found = true; root = z }) (to_z-of_z {w = w64} (record { sfits = c.result-1.given }) ∙ first)
     ∙ sym (answered-first (l call) (roots-ascend call.args.p.now) some)

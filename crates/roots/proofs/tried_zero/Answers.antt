@@ -2,7 +2,6 @@
 -- Assumes nothing.
 use mathlib.Core.Path.{sym, ◌∙◌, ap}
 use mathlib.Core.List.{[]}
-use borrow.Author.Rules.{rules}
 use lib.IntN.{pos}
 use Rattle.algebra.specs.Polynomials.{eval, is_zero_ℤ}
 use Rattle.algebra.specs.Vanishing.{is_zero_ℤ-sound}
