@@ -252,7 +252,8 @@ class Function:
         self.bases = {"c"} | set(env) | set(self.contexts) | set(re.findall(rf"\(({WORD}) : tie\.", text))
         self.bases |= set(re.findall(rf"let ({WORD}) = {WORD}(?:\.before)+ in", text))
         text = re.sub(rf"\btie\.([A-Z][\w'-]*)((?: (?:invariant|decreases)-{WORD})*)", lambda m: m[0] if m[1].startswith("Need") else self.place(m), text)
-        return "".join(l if l.startswith(("use ", "--")) else PATH.sub(self.path, l) for l in text.splitlines(keepends=True))
+        text = "".join(l if l.startswith(("use ", "--")) else PATH.sub(self.path, l) for l in text.splitlines(keepends=True))
+        return re.sub(rf"not-(?:true|false) _ ({WORD}(?:\.{WORD})*\.(?:true|false))-raw(?![^\s(){{}}.;,«»])", r"\1", text)
 
     def convert(self):
         goals = re.findall(rf"\.Need-({WORD})", self.old_text)
@@ -294,7 +295,7 @@ class Function:
                     left.append(piece)
                     self.tell(f"no goal now for {old}" if answer is not None else f"the answer {goal[1]} is not read")
                 continue
-            if answer == "search rules":
+            if answer == "search rules" and not rest[:clause.start()].strip():
                 continue
             args = " ".join(a for a in clause[1].split() if a != "κs")
             ended = self.recorded(rest[clause.end():], self.entry["asked"].get(old_name := next(o for o, n in self.entry["needs"] if n == new)), old_name)

@@ -18,7 +18,7 @@ use Rattle.lists.specs.Tests.{T-&&, same_test, false_of, every, every-from-at, e
 use Rattle.rules.specs.Limits.{small, coefficient_count, column_count, block_count, polynomial_count, block_length}
 use Rattle.rules.specs.Rows.{Block, zero_block, small_row}
 use Rattle.rules.specs.Stores.{row_of, unused_zero_of}
-use Rattle.lists.specs.Parts.{parts, parts-length, get_or-parts}
+use Rattle.lists.specs.Parts.{parts-length, get_or-parts}
 use Rattle.rules.specs.Layout.{polynomial-at-row, coefficients_at_of, block_at}
 use Rattle.stores.specs.Flat.{part_count, parts_in, small_row-row_of, length-blocks, block-at}
 
