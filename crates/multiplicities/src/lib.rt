@@ -2,6 +2,8 @@
 // is 2 or more in size a polynomial that vanishes at r has a quotient within ±C, and at -1, 0 and 1 the coefficients at most double from
 // each place to the one below it, however often n - r is divided out. Each contract gives the result by an equation with a definition of
 // `algebra`, of `rules` or of `specs/`.
+#![tactic(auto)]
+
 ghost use Rattle.std.specs.Prelude.{◌≡◌, ◌≤◌, T, nat_abs, length};
 ghost use Rattle.algebra.specs.Multiplicity as Multiplicity;
 ghost use Rattle.lists.specs.Tests.{every};
