@@ -56,7 +56,7 @@ first_found [] = λ k. refl
 first_found (p ∷ ps) = cases (is_zero_of p) refl (first_nonzero ps) (first_found ps)
   where
     cases : (t : Bool) → is_zero_of p ≡ t → (o : Option ℕ) → FoundAt ps o → FoundAt (p ∷ ps) (cond t (Option.map suc o) (some 0))
-    cases true e none f = λ k. elim k [
+    cases true e none f = λ k. elim k as (λ k. is_zero_of (get_or {A = Polynomial} (p ∷ ps) k []) ≡ true) [
       | zero ↦ e
       | suc k ↦ f k
     ]
