@@ -223,7 +223,14 @@ class Function:
             label = self.labels.get(step, after[1].split(".")[-1])
             then, other = "then-" + label.removeprefix("if-"), "else-" + label.removeprefix("if-")
             self.used |= {then, other}
-            turn = lambda v, t: re.sub(rf"(?<![^\s(){{}};,«»]){re.escape(v)}\.0\.(true|false|taken|left)\b", lambda q: f"{v}.{label}.{WORDS.get(q[1], q[1])}", t)
+            here = {self.fields.get(step, {}).get(plain(f), f) for k, f in re.findall(rf"\.({WORD})(?=\.({WORD}))", self.text) if plain(k) == step}
+            here -= {"came", "branch", "true", "false", "taken", "left"}
+            given = f"{here.pop()}-is" if len(here) == 1 else "1"
+
+            def turn(v, t):
+                name = rf"(?<![^\s(){{}};,«»]){re.escape(v)}"
+                t = re.sub(rf"{name}\.0\.(true|false|taken|left)\b", lambda q: f"{v}.{label}.{WORDS.get(q[1], q[1])}", t)
+                return re.sub(rf"{name}\.1(?![^\s(){{}};,«»])", f"{v}.{given}", t)
             path = after[1]
             text = (text[:m.start()] + f"elim {path}.branch [ {then} {a[1]} ↦ {turn(a[1], one[a.end():])} | {other} {b[1]} ↦ {turn(b[1], two[b.end():])} ]" + text[second + after.end():])
         return text.replace("⊎_ELIM", "⊎_elim")

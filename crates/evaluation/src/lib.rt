@@ -1,5 +1,7 @@
 // The value of a polynomial at an integer by Horner's rule, with a limit on every value on the way, for recorded vectors and for
 // polynomial solutions.
+#![tactic(auto)]
+
 ghost use Rattle.std.specs.Prelude.{◌≡◌, ◌≤◌, T, nat_abs};
 ghost use Rattle.lists.specs.Tests.{every};
 ghost use Rattle.rules.specs.Limits.{small};

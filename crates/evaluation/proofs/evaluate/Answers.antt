@@ -1,5 +1,4 @@
--- `evaluation::evaluate` meets its contract. The invariant: the value is that of the coefficients from i on; in it, as in every signed
--- local of a loop, the value stands as its bits. The measure is i.
+-- `evaluation::evaluate` meets its contract. The invariant: the value is that of the coefficients from i on. The measure is i.
 -- Assumes nothing.
 use mathlib.Core.Path.{◌≡◌, sym, ◌∙◌, ap, subst}
 use mathlib.Core.List.{List}
@@ -7,14 +6,13 @@ use mathlib.Core.Option.{some}
 use Prim.Native.Nat.{ℕ, ◌+◌, ◌*◌, ◌-◌, ◌≤◌, ◌<◌}
 use native.Mathlib.Nat.{le_trans, le_of_eq, mul-le-mul}
 use native.Mathlib.Omega.{arith}
-use borrow.Author.Rules.{rules}
 use lib.Dec.{lit<}
 use lib.IntN.{ℤ, pos, nat_abs, ◌+ℤ◌, ◌*ℤ◌}
 use lib.ListN.{length, drop, get_or}
 use lib.Seq.{drop-length}
 use mir.Syntax.{w64}
-use mir.Val.{Fits, SFits, of_z, to_z}
-use mir.Facts.{to_z-of_z, Fits-of_z}
+use mir.Val.{SFits, of_z, to_z}
+use mir.Facts.{to_z-of_z}
 use Rattle.integers.specs.Ranges.{sfits-size}
 use Rattle.algebra.specs.Integers.{nat_abs-+ℤ, nat_abs-*ℤ}
 use Rattle.rules.specs.Limits.{bound}
@@ -47,10 +45,10 @@ module _ (c : At-loop-i) where
   fits-n = s.ranges.n
 
   value-is : horner n (drop c.loop-i.i p) ≡ some value
-  value-is = rw (to_z-of_z fits-n) at c.loop-i.invariant.3
+  value-is = rw (to_z-of_z fits-n) at c.loop-i.invariant.2
 
   product-size : nat_abs (n *ℤ value) ≤ farthest * value_limit
-  product-size = le_trans (le_of_eq (nat_abs-*ℤ n value)) (mul-le-mul s.requires.1 c.loop-i.invariant.2)
+  product-size = le_trans (le_of_eq (nat_abs-*ℤ n value)) (mul-le-mul s.requires.1 c.loop-i.invariant.1)
 
   product-fits : SFits w64 (n *ℤ value)
   product-fits = sfits-size (n *ℤ value) product-size (lit< tt)
@@ -69,7 +67,7 @@ module _ (c : At-loop-i) where
   next-value : 0 < c.loop-i.i → horner n (drop i p) ≡ within next
   next-value h =
       let e : c.loop-i.i ≡ i + 1 = omega arith in
-      horner-next n p i value (omega (arith, c.loop-i.invariant.1)) (subst (λ k. horner n (drop k p) ≡ some value) e value-is)
+      horner-next n p i value (omega (arith, c.loop-i.invariant.0)) (subst (λ k. horner n (drop k p) ≡ some value) e value-is)
 
 size_is : (c : After-magnitude) → c.magnitude.result ≡ nat_abs (next c.before.before.before)
 size_is c = simp (next-is c.before.before.before, to_z-of_z (next_fits c.before.before.before)) at c.magnitude.ensures
@@ -88,7 +86,6 @@ loop-i-init c =
     let top = length q - 1 in
     let size = small_at q c.requires.0 top in
     let fits : SFits w64 (get_or q top (pos 0)) = sfits-size (get_or q top (pos 0)) size (lit< tt) in (
-      Fits-of_z fits,
       omega arith,
       rw (to_z-of_z fits) (omega (arith, size)),
       rw (to_z-of_z fits) (horner-last (to_z w64 (of_z w64 c.args.n)) q top (omega (arith, c.if-p-eq0.false)) (omega (arith, size))),
@@ -115,8 +112,7 @@ loop-i-preserved c =
     let here = next-value head c.loop-i-test.true in
     let size : nat_abs (next head) ≤ value_limit = omega (arith, size_is c.before, c.if-magnitude-gt-LIMIT.false) in
     simp (next-is head) (
-      Fits-of_z fits,
-      omega (arith, head.loop-i.invariant.1),
+      omega (arith, head.loop-i.invariant.0),
       rw (to_z-of_z fits) size,
       simp (to_z-of_z (fits-n head), to_z-of_z fits) (here ∙ within-yes (next head) size),
     )

@@ -1,11 +1,13 @@
 -- `evaluation::used` meets its contract. The invariant: how far the coefficients before i that are not 0 reach.
 -- Assumes nothing.
 use mathlib.Core.Path.{subst, sym}
-use mathlib.Core.Logic.{⊎_elim}
-use Prim.Native.Nat.{ℕ, ◌+◌, ◌-◌, ◌≤◌}
+use Prim.Native.Nat.{ℕ, ◌+◌}
 use native.Mathlib.Omega.{arith}
-use borrow.Author.Rules.{rules, sfits_of}
-use lib.ListN.{length}
+use borrow.Author.Rules.{rules}
+use lib.IntN.{pos}
+use lib.ListN.{get_or}
+use mir.Syntax.{w64}
+use mir.Val.{SFits}
 use Rattle.algebra.specs.Polynomials.{Polynomial, coeff}
 use Rattle.polynomials.specs.Content.{zero_bits, nonzero-bits}
 use Rattle.evaluation.specs.Evaluated.{Reaches, reach-none, reach-same, reach-next, reach-used}
@@ -29,8 +31,12 @@ module _ (c : Joined-p-i-ne0) where
   reaches : Reaches p (i + 1) c.if-p-i-ne0.reached
   unfolding coeff
   reaches =
-      elim c.if-p-i-ne0.branch [ then-p-i-ne0 t ↦ subst (Reaches p (i + 1)) (sym t.1) (reach-next p i (nonzero-bits t.if-p-i-ne0.true)) | else-p-i-ne0 t ↦ subst (Reaches p (i + 1)) (sym t.1)
-      (reach-same p i head.loop-i.reached head.loop-i.invariant.1 (zero_bits (sfits_of c.t7-1.given) t.if-p-i-ne0.false)) ]
+      let read : SFits w64 (get_or p i (pos 0)) = search rules in
+      elim c.if-p-i-ne0.branch [
+        | then-p-i-ne0 t ↦ subst (Reaches p (i + 1)) (sym t.reached-is) (reach-next p i (nonzero-bits t.if-p-i-ne0.true))
+        | else-p-i-ne0 t ↦ subst (Reaches p (i + 1)) (sym t.reached-is)
+            (reach-same p i head.loop-i.reached head.loop-i.invariant.1 (zero_bits read t.if-p-i-ne0.false))
+      ]
 
 pub loop-i-preserved : goal.loop-i-preserved
 loop-i-preserved c = (omega (arith, c.loop-i-test.true), reaches c)

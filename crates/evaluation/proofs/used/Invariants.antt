@@ -1,14 +1,8 @@
 -- `evaluation::used` meets its contract. The invariant: how far the coefficients before i that are not 0 reach.
 -- Assumes nothing.
-use mathlib.Core.Path.{subst, sym}
-use mathlib.Core.Logic.{⊎_elim}
-use Prim.Native.Nat.{ℕ, ◌+◌, ◌-◌, ◌≤◌}
-use native.Mathlib.Omega.{arith}
-use borrow.Author.Rules.{rules, sfits_of}
+use Prim.Native.Nat.{◌-◌, ◌≤◌}
 use lib.ListN.{length}
-use Rattle.algebra.specs.Polynomials.{Polynomial, coeff}
-use Rattle.polynomials.specs.Content.{zero_bits, nonzero-bits}
-use Rattle.evaluation.specs.Evaluated.{Reaches, reach-none, reach-same, reach-next, reach-used}
+use Rattle.evaluation.specs.Evaluated.{Reaches}
 use Rattle.evaluation.proofs.used.Given as goal
 
 abbrev pub invariant-loop-i : goal.invariant-loop-i
