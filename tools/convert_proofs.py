@@ -78,8 +78,13 @@ class Function:
         self.asked_at = {}
         for (old, _), (at, _) in zip(entry["needs"], entry["asked_at"]):
             self.asked_at[plain(old)] = plain(at)
+        self.arms = {}
+        for arm in entry["arms"]:
+            for new, old, way in (arm[2] if arm else []):
+                self.arms.setdefault(plain(old), {})[tuple(way)] = [arm[0], new]
         self.used = set()
-        self.helpers, self.contexts = {}, {}
+        self.widths = False
+        self.helpers, self.contexts, self.asked = {}, {}, {}
 
     def tell(self, text):
         self.said.append(f"{self.function}: {text}")
@@ -109,7 +114,7 @@ class Function:
         base, steps = (m[1], m[2]) if m[1] else ("", m[3])
         if base[:1].isupper() or base in ("tie", "goal"):
             return m[0]
-        steps = [WORDS.get(s, s) for s in steps[1:].split(".")]
+        steps = [WORDS.get(s, s) if base or steps != ".fits" else s for s in steps[1:].split(".")]
         out, k = [], 0
         while k < len(steps):
             if steps[k] == "before" and k + 1 < len(steps) and any(s != "before" for s in steps[k:]):
@@ -117,7 +122,11 @@ class Function:
                 continue
             step = plain(steps[k])
             told = steps[k + 1] if k + 1 < len(steps) else ""
-            if step in self.labels and (told in FIELDS or step not in FIELDS and (base in self.bases or not base and step.startswith(("loop", "if")))):
+            way = next((w for w in sorted(self.arms.get(step, {}), key=len, reverse=True) if w and tuple(steps[k + 1:k + 1 + len(w)]) == w), None)
+            if way and (base in self.bases or not base):
+                out += self.arms[step][way]
+                k += 1 + len(way)
+            elif step in self.labels and (told in FIELDS or step not in FIELDS and (base in self.bases or not base and step.startswith(("loop", "if")))):
                 out.append(self.labels[step])
                 k += 1
                 if k < len(steps):
@@ -171,11 +180,31 @@ class Function:
             place, n = self.parents.get(place), n + 1
         return n if place == target else None
 
+    def up(self, base, env, target):
+        """The record of the place `target` that the context `base` goes past."""
+        if env[base] == target and target != "Start":
+            return base
+        self.used.add(self.places[target])
+        at = self.asked.get(base, self.places[env[base]])
+        if at not in self.asked.values():
+            self.used.add(at)
+        return f"(goal.at.{at} {base}).{self.places[target]}"
+
     def deepened(self, text, env):
-        """Contexts that are handed on, or named by a `let`, at the depth where their places stand now."""
+        """Contexts that are handed on, or named by a `let`, as the records of the outer places."""
         for name in list(env):
             if env[name] is None:
                 del env[name]
+        def named(m):
+            name, base = m[2], m[3]
+            target = self.contexts.get(name)
+            if target not in self.places or base not in env or self.depth(env[base], target) is None:
+                return m[0]
+            return f"{m[1]}{name} = {self.up(base, env, target)}"
+        text = re.sub(rf"(?m)^( *)({WORD}) = ({WORD})(?:\.before)+$", named, text)
+        for name, made in re.findall(rf"let ({WORD}) = ({WORD}) {WORD} in[ \n]", text):
+            if made in self.contexts:
+                env[name] = self.contexts[made]
         seen = set()
         while m := next((m for m in re.finditer(rf"let ({WORD}) = ({WORD})((?:\.before)+) in[ \n]", text) if m.start() not in seen), None):
             name, base = m[1], m[2]
@@ -186,13 +215,16 @@ class Function:
             targets = {t for t in targets if self.depth(env[base], t) is not None}
             if len(targets) == 1:
                 target = targets.pop()
-                deep = base + ".before" * self.depth(env[base], target)
+                deep = self.up(base, env, target)
                 env[name] = target
                 text = text[:m.start()] + f"let {name} = {deep} in" + text[m.end() - 1:]
                 seen.add(m.start())
             else:
                 rest = re.sub(rf"(?<![^\s(){{}};,«»]){re.escape(name)}(?![^\s(){{}}.;,«»])", base, text[m.end():])
                 text = text[:m.start()] + rest.lstrip()
+        for made, base in re.findall(rf"\(({WORD}) ({WORD})\)(?:\.before)+", text):
+            if made in self.contexts and base in env:
+                env[f"({made} {base})"] = self.contexts[made]
         def handed(m):
             helper, base = m[1], m[2]
             if helper not in self.helpers or base not in env:
@@ -201,8 +233,8 @@ class Function:
             if n is None:
                 self.tell(f"{helper} is at {self.helpers[helper]}, not before {env[base]}")
                 return m[0]
-            return f"{helper} {base}" + ".before" * n
-        return re.sub(rf"(?<![^\s(){{}};,«»])({WORD}) ({WORD})((?:\.before)*)(?![^\s(){{}}.;,«»])", handed, text)
+            return f"{helper} {self.up(base, env, self.helpers[helper])}"
+        return re.sub(rf"(?<![^\s(){{}};,«»])({WORD}) ({WORD}|\({WORD} {WORD}\))((?:\.before)*)(?![^\s(){{}};,«»])", handed, text)
 
     def joined(self, text):
         """Cases on how branches joined, by the names of today's constructors."""
@@ -252,7 +284,7 @@ class Function:
         for name, place in re.findall(rf"\(({WORD}) : tie\.([A-Z][\w'-]*)", text):
             env.setdefault(name, plain(place))
         for name, place in self.contexts.items():
-            if not re.search(rf"(?<![^\s(){{}};,«»]){re.escape(name)} ", text):
+            if re.search(rf"(?m)^ +(?:abbrev |pub )*{re.escape(name)} : tie", text) or not re.search(rf"(?<![^\s(){{}};,«»]){re.escape(name)} ", text):
                 env.setdefault(name, place)
         text = self.joined(text)
         text = self.deepened(text, env)
@@ -294,7 +326,7 @@ class Function:
             at += 1
             k = lines.index(first)
             rest = "".join(lines[k + 1:])
-            clause = re.search(rf"(?m)^{re.escape(goal[1])}((?: {WORD})*?) =", rest)
+            clause = re.search(rf"(?m)^{re.escape(goal[1])}((?:\s+{WORD})*?) =", rest)
             new = self.needs.get(plain(old))
             answer = rest[clause.end():].strip() if clause else None
             if new is None or answer is None:
@@ -307,7 +339,12 @@ class Function:
             args = " ".join(a for a in clause[1].split() if a != "κs")
             ended = self.recorded(rest[clause.end():], self.entry["asked"].get(old_name := next(o for o, n in self.entry["needs"] if n == new)), old_name)
             rest = rest[:clause.start()] + f"{new} {args} =" + ended
+            self.asked = {a: new for a in args.split()[-1:]}
             answer = self.turned("".join(lines[:k]) + f"pub {new} : goal.{new}\n{rest}", {a: self.asked_at[plain(old)] for a in clause[1].split()[-2:] if a != "κs"})
+            self.asked = {}
+            if "to_z-of_z (" in answer or "of_z-to_z (" in answer:
+                answer = re.sub(r"(to_z-of_z|of_z-to_z) \(", r"\1 {w = w64} (", answer)
+                self.widths = True
             answers.append(answer)
             body.append(answer)
         self.write(head, body, invariants, left, answers)
@@ -330,8 +367,12 @@ class Function:
         if len(items) != len(fields):
             self.tell(f"{goal}: {len(items)} parts for {', '.join(fields)}")
             return answer
-        inner = "".join(f" {f} = {i.strip()};" for f, i in zip(fields, items))
-        return text[:start] + "record {" + inner + " }\n"
+        given = [f"{f} = {i.strip()}" for f, i in zip(fields, items)]
+        line = text[:start].splitlines()[-1] if text[:start].strip() else ""
+        if "\n" not in "".join(given) and len(line) + sum(map(len, given)) + 20 < 110:
+            return text[:start] + "record { " + "; ".join(given) + " }\n"
+        margin = "\n" + " " * (len(line) - len(line.lstrip()) + 2 or 2)
+        return text[:start] + "record {" + "".join(f"{margin}  {g};" for g in given) + margin + "}\n"
 
     def tuple_at_end(self, text):
         text = text.rstrip()
@@ -375,6 +416,8 @@ class Function:
         rest = [p if p in answers else self.turned(p) for p in body if p not in shared]
         if any("goal." in p for p in rest) or left:
             extra = f"use {self.module}.Goals as goal\n"
+            if self.widths and not re.search(r"\{[^}]*\bw64\b", uses):
+                uses += "use mir.Syntax.{w64}\n"
             if self.used:
                 extra += f"use {self.module}.Goals.{{{', '.join(sorted(self.used))}}}\n"
             if shared:

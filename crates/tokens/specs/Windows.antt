@@ -243,8 +243,8 @@ sheet_line-taken bytes v rest e = client (client_of bytes) refl (sym (sheet_line
     size : (k : ℤ) (more : List ℕ) → client_of bytes ≡ got k more → (r : Read ℤ) → count_of more ≡ r → read_size k r ≡ got v rest
         → Taken batch_line bytes rest
     size k more c (got n after) d e =
-        taken_twice (field-taken _ _ bytes k more c)
-        (field-taken _ _ more n rest (d ∙ ap (got n) (got-inj _ v after rest e).1))
+        taken_twice (field-taken (between (pos 1) (pos 8)) (always space) bytes k more c)
+        (field-taken (between (pos 0) (pos 32768)) (always newline) more n rest (d ∙ ap (got n) (got-inj _ v after rest e).1))
     size k more c (fault n) d e = absurd (fault-got n v rest e)
 
     client : (r : Read ℤ) → client_of bytes ≡ r → read_after_client r ≡ got v rest → Taken batch_line bytes rest
@@ -265,11 +265,11 @@ sheet_line-got-longer w x v rest e = sheet_line-is (w ++ x) ∙ client (client_o
     size : (k : ℤ) (more : List ℕ) (r : Read ℤ) → count_of more ≡ r → read_size k r ≡ got v rest
         → read_size k (count_of (more ++ x)) ≡ got v (rest ++ x)
     size k more (got n after) d e =
-        ap (read_size k) (field-got-longer _ _ more x n after d) ∙ ap (λ r. followed r x) e
+        ap (read_size k) (field-got-longer (between (pos 0) (pos 32768)) (always newline) more x n after d) ∙ ap (λ r. followed r x) e
     size k more (fault n) d e = absurd (fault-got n v rest e)
 
     client : (r : Read ℤ) → client_of w ≡ r → read_after_client r ≡ got v rest → read_after_client (client_of (w ++ x)) ≡ got v (rest ++ x)
-    client (got k more) c e = ap read_after_client (field-got-longer _ _ w x k more c) ∙ size k more (count_of more) refl e
+    client (got k more) c e = ap read_after_client (field-got-longer (between (pos 1) (pos 8)) (always space) w x k more c) ∙ size k more (count_of more) refl e
     client (fault n) c e = absurd (fault-got n v rest e)
 
 -- Twenty-four bytes decide.
@@ -277,13 +277,14 @@ pub sheet_line-longer : (w x : List ℕ) → batch_line ≤ length w → read_sh
 unfolding read_after_client read_size followed
 sheet_line-longer w x h =
     sheet_line-is (w ++ x)
-    ∙ ap read_after_client (field-longer _ _ w x (omega arith))
+    ∙ ap read_after_client (field-longer (between (pos 1) (pos 8)) (always space) w x (omega arith))
     ∙ client (client_of w) refl
     ∙ ap (λ r. followed r x) (sym (sheet_line-is w))
   where
     client : (r : Read ℤ) → client_of w ≡ r → read_after_client (followed r x) ≡ followed (read_after_client r) x
     client (got k more) c =
-        ap (read_size k) (field-longer _ _ more x (long (field-taken _ _ w k more c)))
+        ap (read_size k) (field-longer (between (pos 0) (pos 32768)) (always newline) more x
+        (long (field-taken (between (pos 1) (pos 8)) (always space) w k more c)))
         ∙ size-followed k (count_of more) x
       where
         long : Taken number_line w more → number_line ≤ length more

@@ -8,7 +8,7 @@
 -- Main statements
 --   front_read, more-read  the digits in front and their value, and one digit more
 use Rattle.std.specs.Prelude.{◌≡◌, ℕ, zero, suc, ◌+◌, ◌-◌, ◌*◌, ◌/◌, ◌%◌, ◌^◌, ◌<◌, ◌≤◌, Bool, true, false, cond, ◌&&◌, T, ◌⊎◌, List, [], ◌∷◌, length, ◌==◌, ◌≢◌, bit_and, bit_or, bit_xor, nat_le, nat_lt, slice_index, slice_index_or}
-use Rattle.std.proofs.Common.{mod-eq_of_lt, add-zero, add_assoc, mul-one, mul_assoc, mod-lt, mul-div_cancel, lt_of_lt_of_le, le-add_right, sym, ◌∙◌, inl, inr, eqb-true, lt-ltb, ltb-false, pow_pos, pow_mono, pow-add}
+use Rattle.std.proofs.Common.{mod-eq_of_lt, add-zero, add_assoc, mul-one, mul_assoc, mod-lt, mul-div_cancel, lt_of_lt_of_le, le-add_right, sym, ◌∙◌, inl, inr, eqb-true, ltb-false, pow_pos, pow_mono, pow-add}
 use Rattle.std.proofs.Math.Nat.{mul-add-mod_self_right, zero-add, mod-one, mul-mod_left}
 use Rattle.std.proofs.Math.Decide.{ℕ_discrete}
 use native.Mathlib.Omega.{arith}

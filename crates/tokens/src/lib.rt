@@ -1,5 +1,7 @@
 // The numbers of a sheet and of a batch line: one to ten digits, a minus or none in front, no superfluous zero
 // (SCOPE 4.2); each is judged, and has its separator (SCOPE 4.33, 4.34, 4.36).
+#![tactic(auto)]
+
 ghost use Rattle.std.specs.Prelude.{◌≡◌, ◌+◌, ◌-◌, ◌*◌, ◌^◌, ◌<◌, ◌≤◌, true, ◌&&◌, length, drop, pos, neg_ℤ, if◌then◌else◌, bit_xor, int_le, nat_lt, slice_index};
 ghost use Rattle.std.proofs.Math.Seq.{slice};
 ghost use Rattle.rules.specs.Numbers.{is_separator_of, is_digit_of, starts_right_of, then_read, field, between, judge_small_of};
