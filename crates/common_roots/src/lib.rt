@@ -1,6 +1,8 @@
 // Common roots leave the multipliers: both leading entries are divided by n - r for each common integer root r before rule 2's
 // multipliers are taken. Every function but `put_multipliers` is private; each contract gives the result by an equation with a definition
 // of `rules` or of `specs/`.
+#![tactic(auto)]
+
 ghost use Rattle.std.specs.Prelude.{◌≡◌, not, ◌++◌, min, ◌≤◌, T, nat_abs, length};
 ghost use Rattle.algebra.specs.Polynomials.{is_zero_of};
 ghost use Rattle.algebra.specs.Roots as Roots;
