@@ -1,4 +1,6 @@
 // Numbers put at the start of a lent store, and the numbers that a lent store holds.
+#![tactic(auto)]
+
 ghost use Rattle.std.specs.Prelude.{◌≡◌, map, ◌≤◌, nat_abs, length, take};
 ghost use Rattle.std.specs.Int.Signed.{non_neg};
 ghost use Rattle.lists.specs.Overwritten.{overwrite};
