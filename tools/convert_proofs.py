@@ -491,7 +491,8 @@ class Function:
             table[v] = table[v].removesuffix("-bits")
             body = re.sub(rf"\(?\bto_z w64 {re.escape(v)}(?![^\s(){{}}.;,«»])\)?", lambda m: self.unwrapped(m[0], table[v]), body)
         turn = lambda m: (f"(of_z w64 {table[m[0]]})" if m[0] in bits else table[m[0]]) if m[0] in table else m[0]
-        body = re.sub(rf"(?<![^\s(){{}};,«»]){WORD}", turn, body)
+        # a field's name in `record { f = .. }` stays
+        body = re.sub(rf"(?<![^\s(){{}};,«»]){WORD}(?![^\s(){{}}.;,@\"«»⌜⌝])(?! = )", turn, body)
         return f"abbrev pub {kind}-{new} : goal.{kind}-{new}\n{rest[:clause.start()]}{kind}-{new} l ={body}"
 
 
