@@ -75,6 +75,10 @@ class Function:
                 self.labels[plain(old)] = now
                 self.fields.setdefault(plain(old), {}).update({plain(a): b for a, b in renames})
             self.parents[plain(name)] = plain(place[1]) if place[1] else None
+        self.old_steps = set()
+        for k, (place, _) in enumerate(zip(entry["places"], entry["places_by_name"])):
+            if place[2][0] and entry["clauses"][k]:
+                self.old_steps |= {place[2][0], place[2][0].replace("_", "-")}
         self.asked_at = {}
         for (old, _), (at, _) in zip(entry["needs"], entry["asked_at"]):
             self.asked_at[plain(old)] = plain(at)
@@ -85,6 +89,30 @@ class Function:
         self.used = set()
         self.widths = False
         self.helpers, self.contexts, self.asked = {}, {}, {}
+        self.arguments = self.parameters()
+
+    def parameters(self):
+        """The function's parameters, by its source."""
+        *modules, name = self.function.replace("+", "").split("/")
+        path = f"crates/{self.crate}/src/{'/'.join(modules) if modules else 'lib'}.rt"
+        if not os.path.exists(path):
+            return []
+        with open(path) as f:
+            text = f.read()
+        m = re.search(rf"(?m)^(?:pub )?fn {re.escape(name)}(?:<[^>]*>)?\(", text)
+        if not m:
+            return []
+        inner = text[m.end():self.group(text, m.end() - 1) - 1]
+        out, depth, part = [], 0, ""
+        for ch in inner + ",":
+            if ch == "," and depth == 0:
+                if ":" in part:
+                    out.append(part.split(":")[0].replace("mut ", "").strip())
+                part = ""
+                continue
+            depth += (ch in "([<") - (ch in ")]>")
+            part += ch
+        return out
 
     def tell(self, text):
         self.said.append(f"{self.function}: {text}")
@@ -114,7 +142,13 @@ class Function:
         base, steps = (m[1], m[2]) if m[1] else ("", m[3])
         if base[:1].isupper() or base in ("tie", "goal"):
             return m[0]
-        steps = [WORDS.get(s, s) if base or steps != ".fits" else s for s in steps[1:].split(".")]
+        lone = not base and steps == ".fits"
+        steps = steps[1:].split(".")
+        steps = [s if lone or s == "last" and k and re.fullmatch(r"(?:if|match|loop)\d*", steps[k - 1]) else WORDS.get(s, s) for k, s in enumerate(steps)]
+        for k in range(len(steps)):
+            given = re.fullmatch(r"t([1-9]\d*)", steps[k])
+            if given and (base if k == 0 else steps[k - 1]) == "args" and int(given[1]) <= len(self.arguments):
+                steps[k] = self.arguments[int(given[1]) - 1]
         out, k = [], 0
         while k < len(steps):
             if steps[k] == "before" and k + 1 < len(steps) and any(s != "before" for s in steps[k:]):
@@ -151,8 +185,10 @@ class Function:
         return base + "." + ".".join(out)
 
     def inlined(self, text):
-        """A `let` of clauses goes, and what it named stands in its places, so that their numbers can be read."""
-        while m := re.search(rf"(?m)let ({WORD}) = ({WORD}(?:\.{WORD})*\.(?:requires|ensures|new|auto)(?:\.[01])*) in[ \n]", text):
+        """A `let` of clauses, or of a call, goes, and what it named stands in its places, so that their numbers can be read."""
+        steps = "|".join(re.escape(o) for o in sorted(self.old_steps, key=len, reverse=True))
+        ends = r"(?:requires|ensures|new|auto)(?:\.[01])*" + (f"|(?:{steps})" if steps else "")
+        while m := re.search(rf"(?m)let ({WORD}) = ({WORD}(?:\.{WORD})*\.(?:{ends})) in[ \n]", text):
             if len(re.findall(rf"(?:let|λ) {re.escape(m[1])}\b", text)) > 1:
                 self.tell(f"`{m[1]}` is bound twice")
                 break
@@ -225,6 +261,13 @@ class Function:
         for made, base in re.findall(rf"\(({WORD}) ({WORD})\)(?:\.before)+", text):
             if made in self.contexts and base in env:
                 env[f"({made} {base})"] = self.contexts[made]
+        def named(m):
+            target, base = plain(m[2]), m[4]
+            place = env.get(base) or self.contexts.get(base)
+            n = self.depth(place, target) if place else None
+            return m[0] if n is None else f"{m[1]} : tie.{m[2]}{m[3]}{m[1]} = {base}" + ".before" * n
+        text = re.sub(rf"(?<![^\s(])({WORD}) : tie\.([A-Z][\w'-]*)(\n +)\1 = ({WORD})(?:\.before)*(?=\n|$)", named, text)
+
         def handed(m):
             helper, base = m[1], m[2]
             if helper not in self.helpers or base not in env:
@@ -399,6 +442,12 @@ class Function:
         return (k, items) if len(items) > 1 else None
 
     def write(self, head, body, invariants, left, answers):
+        if not re.search(r"\bw(?:8|16|32|128)\b", "".join(body)):
+            widened = lambda p: re.sub(r"(?<![^\s(])((?:to_z-of_z|of_z-to_z)(?!\S))(?! *\{)", r"\1 {w = w64}", p)
+            answers = [widened(p) for p in answers]
+            body = [widened(p) for p in body]
+            if "{w = w64}" in "".join(body) and not re.search(r"\{[^}]*\bw64\b", "".join(head)):
+                head = head + ["use mir.Syntax.{w64}\n"]
         comment = "".join(l for l in head if l.startswith("--"))
         uses = "".join(l for l in head if l.startswith("use ") and not re.match(rf"use {re.escape(self.module)}\.(Statement\.|Tie as)", l))
         shared = self.shared(body, invariants)

@@ -28,7 +28,7 @@ use Rattle.rules.specs.Rows.{Block, Row, zero_block, width, width_of, leading_bl
 use Rattle.lists.specs.Everywhere.{All}
 use Rattle.lists.specs.Places.{get_or_default}
 use Rattle.rules.specs.Stores.{row_of}
-use Rattle.lists.specs.Parts.{parts, take-parts, parts-length, get_or-parts, parts-take}
+use Rattle.lists.specs.Parts.{take-parts, parts-length, get_or-parts, parts-take}
 use Rattle.stores.specs.Flat.{is_zero-every, is_zero-split, every-parts, length-blocks, block-at, zero_block-at}
 use Rattle.rules.specs.Limits.{coefficient_count, column_count, block_count, block_length, entries_length}
 use Rattle.rules.specs.Layout.{block_of, coefficients_at_of}

@@ -1,5 +1,7 @@
 // What is done to one row: width, leading entries, shift, mirror, and the limits of a new one. Each contract gives the result
 // by an equation with a definition of `rules` at the row that the numbers hold, `row_of`.
+#![tactic(auto)]
+
 use polynomials::lengths::COEFFICIENTS;
 use stores::lengths::ENTRIES;
 

@@ -2,10 +2,9 @@
 -- row, which is one block narrower; past the blocks that were moved it has only zeros, which are within ±C.
 -- Assumes nothing.
 use mathlib.Core.Path.{◌≡◌, sym, ◌∙◌, ap, ap₂, subst}
-use mathlib.Core.Logic.{⊎_elim}
 use mathlib.Core.Bool.{◌&&◌}
 use mathlib.Core.List.{List, ◌++◌}
-use Prim.Native.Nat.{ℕ, ◌+◌, ◌*◌, ◌-◌, ◌<◌}
+use Prim.Native.Nat.{ℕ, ◌*◌, ◌-◌, ◌<◌}
 use native.Mathlib.Nat.{le_of_eq}
 use native.Mathlib.Omega.{arith}
 use lib.Dec.{T}
@@ -25,11 +24,11 @@ use Rattle.working_rows.specs.Found.{width-most}
 use Rattle.working_rows.specs.Working.{left_part, numbers_held, Full, length-held, small-apart}
 use Rattle.working_rows.specs.Worked.{refusal_of, worked_row}
 use Rattle.working_rows.specs.Shifting.{shifted-long, shifted-numbers, shifted-narrower, row_of-shifted, over-cleared, small-front}
-use Rattle.working_rows.proofs.shifting.shifted.Statement.{statement}
-use Rattle.working_rows.proofs.shifting.shifted.Tie as tie
+use Rattle.working_rows.proofs.shifting.shifted.Goals as goal
+use Rattle.working_rows.proofs.shifting.shifted.Goals.{After-clear, After-move_blocks-left_within, After-put_moved-right_within, Joined-width-gt0, Start, else-left_within, else-width-gt0, then-left_within, then-width-gt0}
 
 -- the row, its entries and its right side
-module _ (c : tie.Start) where
+module _ (c : Start) where
   abbrev row : WorkingRow
   row = c.args.row
 
@@ -52,52 +51,55 @@ module _ (c : tie.Start) where
   whole-side = take_all coefficient_count s (le_of_eq size)
 
 -- the blocks that move up
-module _ (c : tie.Joined1) where
-  abbrev start : tie.Start
+module _ (c : Joined-width-gt0) where
+  abbrev start : Start
   start = c.before.before
 
   abbrev blocks : ℕ
-  blocks = c.if1.new
+  blocks = c.if-width-gt0.last
 
   narrower : blocks ≡ width (row_of (e start)) - 1
   narrower =
-      ⊎_elim (λ w. w.1) (λ w. w.1 ∙ omega (arith, w.0.left)) c.if1.branch ∙ ap (λ w. w - 1) start.pre.2
+      elim c.if-width-gt0.branch [
+        | then-width-gt0 w ↦ w.last-is
+        | else-width-gt0 w ↦ w.last-is ∙ omega (arith, w.if-width-gt0.false)
+      ] ∙ ap (λ w. w - 1) start.requires.2
 
   few : blocks < block_count
   few = omega (arith, width-most (e start), narrower)
 
 -- the shifted left part
-module _ (c : tie.After-clear) where
-  abbrev moved : tie.After-move-blocks
+module _ (c : After-clear) where
+  abbrev moved : After-move_blocks-left_within
   moved = c.before.before.before.before
 
-  abbrev chosen : tie.Joined1
+  abbrev chosen : Joined-width-gt0
   chosen = moved.before.before.before.before.before
 
-  left_is : c.clear.new.0 ≡ left (start chosen)
+  left_is : c.clear.new.store ≡ left (start chosen)
   left_is =
       let b = start chosen in
       c.clear.ensures
-      ∙ ap (λ d. paste d (blocks chosen * block_length) (replicate block_length (pos 0)) block_length) moved.move-blocks.ensures.0
+      ∙ ap (λ d. paste d (blocks chosen * block_length) (replicate block_length (pos 0)) block_length) moved.move_blocks-left_within.ensures.entries_after
       ∙ over-cleared (e b) (s b) (long b) (size b) (blocks chosen) (narrower chosen)
 
 -- the shifted row
-module _ (c : tie.After-put-moved) where
-  abbrev cleared : tie.After-clear
+module _ (c : After-put_moved-right_within) where
+  abbrev cleared : After-clear
   cleared = c.before.before.before.before
 
-  abbrev known : tie.Joined1
+  abbrev known : Joined-width-gt0
   known = chosen cleared
 
-  abbrev origin : tie.Start
+  abbrev origin : Start
   origin = start known
 
   abbrev new : WorkingRow
-  new = record { entries = cleared.clear.last.0; right = c.put-moved.new.0; width = blocks known }
+  new = record { entries = cleared.clear.new.store; right = c.put_moved-right_within.new.place; width = blocks known }
 
   side-is : new.right ≡ shift (s origin)
   side-is =
-      c.put-moved.ensures.0 ∙ ap (λ q. paste (s origin) 0 (shift q) coefficient_count) (whole-side origin)
+      c.put_moved-right_within.ensures.place_after ∙ ap (λ q. paste (s origin) 0 (shift q) coefficient_count) (whole-side origin)
       ∙ paste-whole (s origin) (shift (s origin)) coefficient_count (le_of_eq (size origin)) (length_shift (s origin) ∙ size origin)
 
   parts_are : numbers_held new ≡ left origin ++ shift (s origin)
@@ -107,7 +109,7 @@ module _ (c : tie.After-put-moved) where
   holds =
       let o = origin in
       ap row_of (parts_are ∙ sym (shifted-numbers (e o) (s o) (long o) (size o)))
-      ∙ row_of-shifted (numbers_held (row o)) (length-held (row o) o.pre.0)
+      ∙ row_of-shifted (numbers_held (row o)) (length-held (row o) o.requires.0)
 
   full : Full new
   full =
@@ -122,83 +124,48 @@ module _ (c : tie.After-put-moved) where
       let o = origin in
       narrower known ∙ sym (shifted-narrower (e o) (s o) (long o) (size o)) ∙ sym (ap (λ l. width (row_of l)) (left_is cleared))
 
-  within : every small (numbers_held new) ≡ ((moved cleared).move-blocks.result && c.put-moved.result)
+  within : every small (numbers_held new) ≡ ((moved cleared).move_blocks-left_within.result && c.put_moved-right_within.result)
   within =
       let o = origin in
       ap (every small) parts_are ∙ small-front (e o) (s o) (long o) (size o) (blocks known) (narrower known)
-      ∙ ap₂ ◌&&◌ (sym (moved cleared).move-blocks.ensures.1)
-      (sym (c.put-moved.ensures.1 ∙ ap (λ q. every small (shift q)) (whole-side o)))
+      ∙ ap₂ ◌&&◌ (sym (moved cleared).move_blocks-left_within.ensures.value)
+      (sym (c.put_moved-right_within.ensures.value ∙ ap (λ q. every small (shift q)) (whole-side o)))
 
-pascal-requires : tie.Need-pascal-requires
-pascal-requires c κs = search rules
-
-sub-last : tie.Need-overflow-sub-last
-sub-last c = search rules
-
-slice-aggregate-move-blocks : tie.Need-slice-aggregate-move-blocks
-slice-aggregate-move-blocks c = search rules
-
-move-blocks-requires : tie.Need-move-blocks-requires
-move-blocks-requires c κs =
+pub move_blocks-left_within-requires : goal.move_blocks-left_within-requires
+move_blocks-left_within-requires c =
     let d = c.before.before.before.before in
     let o = start d in
-    (d.before.pascal.ensures, long o, (small-apart (row o) o.pre.1).0, omega (arith, few d))
+    (d.pascal-table.ensures, long o, (small-apart (row o) o.requires.1).0, omega (arith, few d))
 
-slice-aggregate-clear : tie.Need-slice-aggregate-clear
-slice-aggregate-clear c = search rules
+pub overflow_mul-last : goal.overflow_mul-last
+overflow_mul-last c = let h = few c.before.before.before.before.before.before.before.before in search rules
 
-mul-clear : tie.Need-overflow-mul-clear
-mul-clear c = let h = few c.before.before.before.before.before.before.before.before in search rules
+pub clear-requires : goal.clear-requires
+clear-requires c =
+    let d = c.before.before.before.before.before.before.before.before in
+    omega (arith, c.move_blocks-left_within.auto.entries, long (start d), few d)
 
-clear-requires : tie.Need-clear-requires
-clear-requires c κs =
-    let m = c.before.before.before in
-    let d = m.before.before.before.before.before in
-    omega (arith, m.move-blocks.auto.0, long (start d), few d)
-
-slice-aggregate-put-moved : tie.Need-slice-aggregate-put-moved
-slice-aggregate-put-moved c = search rules
-
-put-moved-requires : tie.Need-put-moved-requires
-put-moved-requires c κs =
+pub put_moved-right_within-requires : goal.put_moved-right_within-requires
+put_moved-right_within-requires c =
     let d = chosen c.before.before.before in
     let o = start d in (
-      d.before.pascal.ensures,
+      d.pascal-table.ensures,
       le_of_eq (sym (size o)),
       le_of_eq (sym (size o)),
-      subst (λ l. T (every small l)) (sym (whole-side o)) (small-apart (row o) o.pre.1).1,
+      subst (λ l. T (every small l)) (sym (whole-side o)) (small-apart (row o) o.requires.1).1,
     )
 
-limited-requires : tie.Need-limited-requires
-limited-requires c κs =
+pub limited-requires : goal.limited-requires
+limited-requires c =
     let d = c.before.before in (
       full d,
       wide d,
-      ⊎_elim
-          (λ w. w.1 ∙ sym (within d ∙ ap (λ t. t && d.put-moved.result) w.0.taken))
-          (λ w. w.1 ∙ w.0.left ∙ sym (within d ∙ ap (λ t. t && d.put-moved.result) w.0.left))
-          c.if2.branch,
+      elim c.if-left_within.branch [
+        | then-left_within w ↦ w.limited-is ∙ sym (within d ∙ ap (λ t. t && d.put_moved-right_within.result) w.if-left_within.true)
+        | else-left_within w ↦ w.limited-is ∙ w.if-left_within.false ∙ sym (within d ∙ ap (λ t. t && d.put_moved-right_within.result) w.if-left_within.false)
+      ],
     )
 
-returns : tie.Need-returns
+pub returns : goal.returns
 returns c =
-    let d = c.before.before.before in (
-      c.limited.ensures.0 ∙ ap (λ r. refusal_of (limit_coefficients r)) (holds d),
-      c.limited.ensures.1 ∙ ap (λ r. worked_row (limit_coefficients r)) (holds d),
-    )
-
-pub shifted-spec : {M : Type 1} → statement M
-shifted-spec =
-    tie.close
-    (tie.spec
-    pascal-requires
-    sub-last
-    slice-aggregate-move-blocks
-    move-blocks-requires
-    slice-aggregate-clear
-    mul-clear
-    clear-requires
-    slice-aggregate-put-moved
-    put-moved-requires
-    limited-requires
-    returns)
+    let d = c.before.before.before in record { refusal_value = c.limited.ensures.0 ∙ ap (λ r. refusal_of (limit_coefficients r)) (holds d); row_value = c.limited.ensures.1 ∙ ap (λ r. worked_row (limit_coefficients r)) (holds d) }
