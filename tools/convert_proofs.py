@@ -149,6 +149,12 @@ class Function:
             given = re.fullmatch(r"t([1-9]\d*)", steps[k])
             if given and (base if k == 0 else steps[k - 1]) == "args" and int(given[1]) <= len(self.arguments):
                 steps[k] = self.arguments[int(given[1]) - 1]
+        if base in self.step_names:
+            self.bases.add("c")
+            return base + self.steps_of("c", [self.step_names[base]] + steps).removeprefix("c." + self.labels[self.step_names[base]])
+        return self.steps_of(base, steps)
+
+    def steps_of(self, base, steps):
         out, k = [], 0
         while k < len(steps):
             if steps[k] == "before" and k + 1 < len(steps) and any(s != "before" for s in steps[k:]):
@@ -277,7 +283,10 @@ class Function:
                 self.tell(f"{helper} is at {self.helpers[helper]}, not before {env[base]}")
                 return m[0]
             return f"{helper} {self.up(base, env, self.helpers[helper])}"
-        return re.sub(rf"(?<![^\s(){{}};,«»])({WORD}) ({WORD}|\({WORD} {WORD}\))((?:\.before)*)(?![^\s(){{}};,«»])", handed, text)
+        if not self.helpers:
+            return text
+        helper = "|".join(sorted(map(re.escape, self.helpers), key=len, reverse=True))
+        return re.sub(rf"(?<![^\s(){{}};,«»])({helper}) ({WORD}|\({WORD} {WORD}\))((?:\.before)*)(?![^\s(){{}};,«»])", handed, text)
 
     def joined(self, text):
         """Cases on how branches joined, by the names of today's constructors."""
@@ -331,6 +340,10 @@ class Function:
                 env.setdefault(name, place)
         text = self.joined(text)
         text = self.deepened(text, env)
+        self.step_names = {}
+        for name, step in re.findall(rf"let ({WORD}) = {WORD}(?:\.before)*\.({WORD}) in", text):
+            if plain(step) in self.labels and len(re.findall(rf"(?:let|λ) {re.escape(name)}(?![^\s(){{}}.;,«»])", text)) == 1:
+                self.step_names[name] = plain(step)
         self.bases = {"c"} | set(env) | set(self.contexts) | set(re.findall(rf"\(({WORD}) : tie\.", text))
         self.bases |= set(re.findall(rf"let ({WORD}) = {WORD}(?:\.before)+ in", text))
         text = re.sub(rf"\btie\.([A-Z][\w'-]*)((?: (?:invariant|decreases)-{WORD})*)", lambda m: m[0] if m[1].startswith("Need") else self.place(m), text)
@@ -382,8 +395,9 @@ class Function:
             args = " ".join(a for a in clause[1].split() if a != "κs")
             ended = self.recorded(rest[clause.end():], self.entry["asked"].get(old_name := next(o for o, n in self.entry["needs"] if n == new)), old_name)
             rest = rest[:clause.start()] + f"{new} {args} =" + ended
-            self.asked = {a: new for a in args.split()[-1:]}
-            answer = self.turned("".join(lines[:k]) + f"pub {new} : goal.{new}\n{rest}", {a: self.asked_at[plain(old)] for a in clause[1].split()[-2:] if a != "κs"})
+            context = "c" if "c" in args.split() else args.split()[-1] if args else "c"
+            self.asked = {context: new}
+            answer = self.turned("".join(lines[:k]) + f"pub {new} : goal.{new}\n{rest}", {context: self.asked_at[plain(old)]})
             self.asked = {}
             if "to_z-of_z (" in answer or "of_z-to_z (" in answer:
                 answer = re.sub(r"(to_z-of_z|of_z-to_z) \(", r"\1 {w = w64} (", answer)

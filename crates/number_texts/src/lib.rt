@@ -1,6 +1,8 @@
 // The writing of numbers. Each writing function stores its bytes from a place on, as far as the store goes, counts them all and gives the
 // next place: called on an empty part of the store it only counts. No public entry points: callers know that places stay below 2^64 and
 // numbers within C, and the contracts give the bytes and the place by equations.
+#![tactic(auto)]
+
 ghost use Rattle.std.specs.Prelude.{◌≡◌, [], ◌∷◌, map, ℕ, ◌+◌, ◌-◌, ◌*◌, ◌^◌, ◌≤◌, ◌<◌, pos, nat_abs, T, length, set};
 ghost use Rattle.std.proofs.lemmas.List.Edits.{sets};
 ghost use Rattle.lists.specs.Tests.{every};
