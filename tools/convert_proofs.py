@@ -151,7 +151,9 @@ class Function:
                 steps[k] = self.arguments[int(given[1]) - 1]
         if base in self.step_names:
             self.bases.add("c")
-            return base + self.steps_of("c", [self.step_names[base]] + steps).removeprefix("c." + self.labels[self.step_names[base]])
+            label = "c." + self.labels[self.step_names[base]]
+            way = self.steps_of("c", [self.step_names[base]] + steps)
+            return base + way.removeprefix(label) if way.startswith(label + ".") else m[0]
         return self.steps_of(base, steps)
 
     def steps_of(self, base, steps):
