@@ -60,7 +60,7 @@ class Function:
         with open(f"{old_root}/{self.folder}/Proof.antt") as f:
             self.old_text = f.read()
         self.needs = {plain(o): n for o, n in entry["needs"]}
-        self.labels, self.places, self.fields, self.clauses, self.params = {}, {}, {}, {}, {}
+        self.labels, self.places, self.fields, self.clauses, self.params, self.parents = {}, {}, {}, {}, {}, {}
         self.pre = (entry["pre"] or {}).get("fields")
         for k, (place, new) in enumerate(zip(entry["places"], entry["places_by_name"])):
             name, _, (old, now), callee, renames = place[:5]
@@ -74,7 +74,12 @@ class Function:
                     self.tell(f"the step {old} is {self.labels[plain(old)]} and {now}")
                 self.labels[plain(old)] = now
                 self.fields.setdefault(plain(old), {}).update({plain(a): b for a, b in renames})
+            self.parents[plain(name)] = plain(place[1]) if place[1] else None
+        self.asked_at = {}
+        for (old, _), (at, _) in zip(entry["needs"], entry["asked_at"]):
+            self.asked_at[plain(old)] = plain(at)
         self.used = set()
+        self.helpers, self.contexts = {}, {}
 
     def tell(self, text):
         self.said.append(f"{self.function}: {text}")
@@ -112,7 +117,7 @@ class Function:
                 continue
             step = plain(steps[k])
             told = steps[k + 1] if k + 1 < len(steps) else ""
-            if step in self.labels and (told in FIELDS or step not in FIELDS and base in self.bases):
+            if step in self.labels and (told in FIELDS or step not in FIELDS and (base in self.bases or not base and step.startswith(("loop", "if")))):
                 out.append(self.labels[step])
                 k += 1
                 if k < len(steps):
@@ -146,9 +151,105 @@ class Function:
             text = text[:m.start()] + rest.lstrip()
         return text
 
-    def turned(self, text):
+    def learn(self, pieces):
+        """The place that each helper's first context is."""
+        for piece in pieces:
+            section = re.match(rf"(?:--.*\n)*module _ \(({WORD}) : tie\.([A-Z][\w'-]*)", piece)
+            if section:
+                for name in re.findall(rf"(?m)^  (?:abbrev |pub )*({WORD}) :", piece):
+                    self.helpers[name] = plain(section[2])
+            for name, place in re.findall(rf"(?m)^(?:abbrev |pub )*({WORD}) : \({WORD} : tie\.([A-Z][\w'-]*)", piece):
+                self.helpers[name] = plain(place)
+
+        for name, place in re.findall(rf"(?m)^ *(?:abbrev |pub )*({WORD}) : tie\.([A-Z][\w'-]*)[^→\n]*$", "\n".join(pieces)):
+            if not place.startswith("Need"):
+                self.contexts[name] = plain(place)
+
+    def depth(self, place, target):
+        n = 0
+        while place is not None and place != target:
+            place, n = self.parents.get(place), n + 1
+        return n if place == target else None
+
+    def deepened(self, text, env):
+        """Contexts that are handed on, or named by a `let`, at the depth where their places stand now."""
+        for name in list(env):
+            if env[name] is None:
+                del env[name]
+        seen = set()
+        while m := next((m for m in re.finditer(rf"let ({WORD}) = ({WORD})((?:\.before)+) in[ \n]", text) if m.start() not in seen), None):
+            name, base = m[1], m[2]
+            if base not in env or len(re.findall(rf"(?:let|λ) {re.escape(name)}(?![^\s(){{}}.;,«»])", text)) > 1:
+                seen.add(m.start())
+                continue
+            targets = {self.helpers[h] for h, b in re.findall(rf"(?<![^\s(){{}};,«»])({WORD})(?: [a-z])*? {re.escape(name)}((?:\.before)*)(?![^\s(){{}}.;,«»])", text[m.end():]) if h in self.helpers and not b}
+            targets = {t for t in targets if self.depth(env[base], t) is not None}
+            if len(targets) == 1:
+                target = targets.pop()
+                deep = base + ".before" * self.depth(env[base], target)
+                env[name] = target
+                text = text[:m.start()] + f"let {name} = {deep} in" + text[m.end() - 1:]
+                seen.add(m.start())
+            else:
+                rest = re.sub(rf"(?<![^\s(){{}};,«»]){re.escape(name)}(?![^\s(){{}}.;,«»])", base, text[m.end():])
+                text = text[:m.start()] + rest.lstrip()
+        def handed(m):
+            helper, base = m[1], m[2]
+            if helper not in self.helpers or base not in env:
+                return m[0]
+            n = self.depth(env[base], self.helpers[helper])
+            if n is None:
+                self.tell(f"{helper} is at {self.helpers[helper]}, not before {env[base]}")
+                return m[0]
+            return f"{helper} {base}" + ".before" * n
+        return re.sub(rf"(?<![^\s(){{}};,«»])({WORD}) ({WORD})((?:\.before)*)(?![^\s(){{}}.;,«»])", handed, text)
+
+    def joined(self, text):
+        """Cases on how branches joined, by the names of today's constructors."""
+        while m := re.search(r"⊎_elim\s+\(", text):
+            k = text.index("(", m.start())
+            first = self.group(text, k)
+            gap = re.match(r"\s*", text[first:]).end()
+            if text[first + gap:first + gap + 1] != "(":
+                break
+            second = self.group(text, first + gap)
+            after = re.match(rf"\s*\(?({WORD}(?:\.{WORD})*)\.(?:came|branch)\)?", text[second:])
+            one, two = text[k + 1:first - 1], text[first + gap + 1:second - 1]
+            a, b = re.match(rf"λ ({WORD})\. ?", one), re.match(rf"λ ({WORD})\. ?", two)
+            if not after or not a or not b:
+                text = text[:m.start()] + "⊎_ELIM" + text[m.start() + 6:]
+                continue
+            step = plain(after[1].split(".")[-1])
+            label = self.labels.get(step, after[1].split(".")[-1])
+            then, other = "then-" + label.removeprefix("if-"), "else-" + label.removeprefix("if-")
+            self.used |= {then, other}
+            turn = lambda v, t: re.sub(rf"(?<![^\s(){{}};,«»]){re.escape(v)}\.0\.(true|false|taken|left)\b", lambda q: f"{v}.{label}.{WORDS.get(q[1], q[1])}", t)
+            path = after[1]
+            text = (text[:m.start()] + f"elim {path}.branch [ {then} {a[1]} ↦ {turn(a[1], one[a.end():])} | {other} {b[1]} ↦ {turn(b[1], two[b.end():])} ]" + text[second + after.end():])
+        return text.replace("⊎_ELIM", "⊎_elim")
+
+    def group(self, text, k):
+        depth = 0
+        while True:
+            if text[k] in "([{":
+                depth += 1
+            elif text[k] in ")]}":
+                depth -= 1
+                if depth == 0:
+                    return k + 1
+            k += 1
+
+    def turned(self, text, env=None):
         text = self.inlined(text)
-        self.bases = {"c"} | set(re.findall(rf"\(({WORD}) : tie\.", text))
+        env = dict(env or {})
+        for name, place in re.findall(rf"\(({WORD}) : tie\.([A-Z][\w'-]*)", text):
+            env.setdefault(name, plain(place))
+        for name, place in self.contexts.items():
+            if not re.search(rf"(?<![^\s(){{}};,«»]){re.escape(name)} ", text):
+                env.setdefault(name, place)
+        text = self.joined(text)
+        text = self.deepened(text, env)
+        self.bases = {"c"} | set(env) | set(self.contexts) | set(re.findall(rf"\(({WORD}) : tie\.", text))
         self.bases |= set(re.findall(rf"let ({WORD}) = {WORD}(?:\.before)+ in", text))
         text = re.sub(rf"\btie\.([A-Z][\w'-]*)((?: (?:invariant|decreases)-{WORD})*)", lambda m: m[0] if m[1].startswith("Need") else self.place(m), text)
         return "".join(l if l.startswith(("use ", "--")) else PATH.sub(self.path, l) for l in text.splitlines(keepends=True))
@@ -158,9 +259,11 @@ class Function:
         if len(goals) != len(re.findall(rf"\.Need-{WORD}", self.text)):
             self.tell("the goals before and now are not as many")
             return
-        head, body, invariants, left = [], [], [], []
+        head, body, invariants, left, answers = [], [], [], [], []
         at = 0
-        for piece in pieces_of(self.text):
+        pieces = pieces_of(self.text)
+        self.learn(pieces)
+        for piece in pieces:
             lines = piece.splitlines(keepends=True)
             first = next((l for l in lines if not l.startswith("--")), "")
             if HEAD.match(piece) and (not first or first.startswith("use ")):
@@ -183,7 +286,7 @@ class Function:
             at += 1
             k = lines.index(first)
             rest = "".join(lines[k + 1:])
-            clause = re.search(rf"(?m)^{re.escape(goal[1])}((?: {WORD})*) =", rest)
+            clause = re.search(rf"(?m)^{re.escape(goal[1])}((?: {WORD})*?) =", rest)
             new = self.needs.get(plain(old))
             answer = rest[clause.end():].strip() if clause else None
             if new is None or answer is None:
@@ -196,8 +299,10 @@ class Function:
             args = " ".join(a for a in clause[1].split() if a != "κs")
             ended = self.recorded(rest[clause.end():], self.entry["asked"].get(old_name := next(o for o, n in self.entry["needs"] if n == new)), old_name)
             rest = rest[:clause.start()] + f"{new} {args} =" + ended
-            body.append("".join(lines[:k]) + f"pub {new} : goal.{new}\n{rest}")
-        self.write(head, body, invariants, left)
+            answer = self.turned("".join(lines[:k]) + f"pub {new} : goal.{new}\n{rest}", {a: self.asked_at[plain(old)] for a in clause[1].split()[-2:] if a != "κs"})
+            answers.append(answer)
+            body.append(answer)
+        self.write(head, body, invariants, left, answers)
 
     def recorded(self, answer, fields, goal):
         """An answer's last tuple as the record of the clauses that have names now."""
@@ -237,14 +342,14 @@ class Function:
                 cuts.append(k)
             k -= 1
         before = text[:k].rstrip()
-        if before and not re.search(r"(?:=|\bin)$", before):
+        if before and not re.search(r"(?:=|\bin|\b(?:rw|simp) (?:[\w-]+(?: at [\w.]+)?|\([^\n]*\)))$", before):
             return None
         cuts = [k] + cuts[::-1] + [len(text) - 1]
         items = [text[a + 1:b] for a, b in zip(cuts, cuts[1:])]
         items = [i for i in items if i.strip()]
         return (k, items) if len(items) > 1 else None
 
-    def write(self, head, body, invariants, left):
+    def write(self, head, body, invariants, left, answers):
         comment = "".join(l for l in head if l.startswith("--"))
         uses = "".join(l for l in head if l.startswith("use ") and not re.match(rf"use {re.escape(self.module)}\.(Statement\.|Tie as)", l))
         shared = self.shared(body, invariants)
@@ -259,7 +364,7 @@ class Function:
                 uses_here += "use mir.Syntax.{w64}\n"
             with open(f"{self.folder}/Invariants.antt", "w") as f:
                 f.write(comment + uses_here + f"use {self.module}.Given as goal\n\n" + "\n".join(parts))
-        rest = [self.turned(p) for p in body if p not in shared]
+        rest = [p if p in answers else self.turned(p) for p in body if p not in shared]
         if any("goal." in p for p in rest) or left:
             extra = f"use {self.module}.Goals as goal\n"
             if self.used:
@@ -315,7 +420,7 @@ class Function:
 
     def invariant(self, name, kind, loop, piece):
         rest = piece[piece.index("\n", piece.index(" : tie.")) + 1:]
-        clause = re.search(rf"(?m)^{re.escape(name)}((?: {WORD})*) =", rest)
+        clause = re.search(rf"(?m)^{re.escape(name)}((?: {WORD})*?) =", rest)
         found = [(k, l) for k, l in enumerate(self.entry["loops"]) if plain(l[0][0]) == plain(loop)]
         if not clause or not found:
             self.tell(f"{name} is not read")

@@ -2,7 +2,7 @@
 from random import Random
 from pathlib import Path
 
-from wurgalm import Equation, Refused, Relation, System, run, typed
+from wurgalm import Equation, Refused, Relation, System, run
 
 ROOT = Path(__file__).resolve().parent.parent.parent
 EXAMPLES = ROOT / "examples"
@@ -41,11 +41,3 @@ def accepted_systems(seed, count, **how):
             continue
         found.append(system)
     return found
-
-
-def has_command():
-    """Whether the command is built that reads texts."""
-    try:
-        return bool(typed.command())
-    except FileNotFoundError:
-        return False

@@ -11,7 +11,6 @@ import wurgalm
 
 NAMES = ("arguments", "calls", "differential", "library", "logs", "refusals", "systems")
 MODULES = ["wurgalm", *(f"wurgalm.{name}" for name in NAMES)]
-WITH_COMMAND = ["wurgalm.typed"]
 WITH_SYMPY = ["wurgalm.expressions"]
 
 
@@ -29,17 +28,12 @@ class Pages(unittest.TestCase):
             with self.subTest(name):
                 self.holds(doctest.testmod(importlib.import_module(name), verbose=False))
 
-    @unittest.skipUnless(made.has_command(), "the command is not built")
-    def test_docstrings_with_the_command(self):
-        for name in WITH_COMMAND:
-            self.holds(doctest.testmod(importlib.import_module(name), verbose=False))
-
-    @unittest.skipUnless(has_sympy() and made.has_command(), "SymPy is not there, or the command is not built")
+    @unittest.skipUnless(has_sympy(), "SymPy is not there")
     def test_docstrings_with_sympy(self):
         for name in WITH_SYMPY:
             self.holds(doctest.testmod(importlib.import_module(name), verbose=False))
 
-    @unittest.skipUnless(has_sympy() and made.has_command(), "SymPy is not there, or the command is not built")
+    @unittest.skipUnless(has_sympy(), "SymPy is not there")
     def test_the_page(self):
         self.holds(doctest.testfile(str(made.ROOT / "python/README.md"), module_relative=False, verbose=False))
 
@@ -48,12 +42,12 @@ class Pages(unittest.TestCase):
 
     def test_every_module_is_looked_at(self):
         modules = {path.stem for path in (made.ROOT / "python/wurgalm").glob("*.py")} - {"__init__"}
-        self.assertEqual({f"wurgalm.{name}" for name in modules} | {"wurgalm"}, {*MODULES, *WITH_COMMAND, *WITH_SYMPY})
+        self.assertEqual({f"wurgalm.{name}" for name in modules} | {"wurgalm"}, {*MODULES, *WITH_SYMPY})
 
     def test_everything_is_documented_and_typed(self):
         """Each public name has a docstring, and each argument and result of a public function or method a type."""
         named = {f"wurgalm.{name}": getattr(wurgalm, name) for name in wurgalm.__all__}
-        for name in [*MODULES[1:], *WITH_COMMAND, *(WITH_SYMPY if has_sympy() else [])]:
+        for name in [*MODULES[1:], *(WITH_SYMPY if has_sympy() else [])]:
             module = importlib.import_module(name)
             self.assertTrue(module.__doc__, name)
             own = {key: value for key, value in vars(module).items() if getattr(value, "__module__", None) == name}

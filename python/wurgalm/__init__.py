@@ -8,8 +8,7 @@
 Traceback (most recent call last):
 wurgalm.refusals.NoSolution: refused with 10: no sequence satisfies the system
 
-`wurgalm.expressions` makes systems of SymPy's expressions; it needs SymPy, and nothing else here does. `wurgalm.typed` reads equations that
-are typed; it needs the command `wurgalm`, and so do texts among the expressions.
+`wurgalm.expressions` makes systems of SymPy's expressions; it needs SymPy, and nothing else here does.
 Where the shared library is missing, the import says so, and which commands make it.
 """
 from . import library

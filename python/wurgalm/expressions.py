@@ -1,7 +1,7 @@
 """Systems and differential equations from SymPy's expressions and back. This module alone needs SymPy.
 
-SymPy runs what it parses, so it gets nothing to parse from here: an equation is an object of SymPy, an int, a Fraction, or a text that
-the command reads (`wurgalm.typed`); unknowns are `sympy.Function("y")`, variables are `sympy.Symbol("n")`.
+SymPy runs what it parses, so it gets nothing to parse from here: equations are SymPy's objects, ints or Fractions,
+unknowns are `sympy.Function("y")`, variables are `sympy.Symbol("n")`. A text is a TypeError that names its argument.
 
 >>> from sympy import Function, symbols
 >>> n, x, y = symbols("n"), Function("x"), Function("y")
@@ -11,10 +11,8 @@ the command reads (`wurgalm.typed`); unknowns are `sympy.Function("y")`, variabl
 >>> equations, relations = expressions_of(k2, [x, y], n)
 >>> equations[0]
 Eq(n*x(n + 1) - y(n), 0)
->>> system_of(["n*x(n+1) = y(n)", "x(n+1) = x(n)"], [x, y], n) == k2
-True
 """
-from collections.abc import Iterable, Mapping, Sequence
+from collections.abc import Iterable, Sequence
 from fractions import Fraction
 from typing import Any
 
@@ -24,7 +22,6 @@ except ImportError as missing:
     raise ImportError("wurgalm.expressions needs SymPy, and it is not installed; systems of lists do without it") from missing
 from sympy.core.function import AppliedUndef, UndefinedFunction
 
-from . import typed
 from .arguments import instance, members, pair, short, wanted, whole
 from .differential import Differential
 from .systems import Equation, Polynomial, Relation, System, each, polynomial
@@ -37,11 +34,10 @@ def system_of(
     relations: Iterable[tuple[int, Any]] = (),
     blocks: tuple[int, int] | None = None,
 ) -> System:
-    """The system of these equations, each an expression that is to be 0, a `sympy.Eq` or a text, in which unknown c is the c-th of
-    `functions`, taken at n plus an integer. Fractions are cleared by a positive integer. What stands without an unknown is the right side.
-    A relation is a pair of n0 and an equation, or a text `at n = 0: x(1) = x(0)`. `blocks` is the highest and the lowest block; without
-    it they are those that occur. A text has one equation, its unknowns are called as `functions` are, and its index is n. A ValueError
-    says what is not such an equation.
+    """The system of these equations, each an expression that is to be 0 or a `sympy.Eq`, in which unknown c is the c-th of `functions`,
+    taken at n plus an integer. Fractions are cleared by a positive integer. What stands without an unknown is the right side. A relation
+    is a pair of n0 and an equation. `blocks` is the highest and the lowest block; without it they are those that occur. A ValueError says
+    what is not such an equation.
 
     >>> from sympy import Eq, Function, Rational, symbols
     >>> n, x = symbols("n"), Function("x")
@@ -51,13 +47,9 @@ def system_of(
     unknowns, variable = _unknowns(functions), _variable(n, "n")
 
     def equation(given: Any, name: str) -> Equation:
-        if isinstance(given, str):
-            return _typed(given, unknowns, variable, name).equations[0]
         return _equation(_expression(given, name), unknowns, variable)
 
     def relation(given: Any, name: str) -> Relation:
-        if isinstance(given, str):
-            return _typed(given, unknowns, variable, name, "relation").relations[0]
         n0, asked = pair(given, name, "n0 and an equation")
         return Relation(whole(n0, f"{name}[0]"), equation(asked, f"{name}[1]"))
 
@@ -93,20 +85,16 @@ def in_n(coefficients: Polynomial, n: Any) -> Any:
 
 
 def differential_of(equations: Iterable[Any], functions: Sequence[Any], x: Any) -> Differential:
-    """The differential equations of these expressions and texts, in which unknown c is the c-th of `functions`, taken at x.
+    """The differential equations of these expressions, in which unknown c is the c-th of `functions`, taken at x.
 
     >>> from sympy import Function, symbols
     >>> x, y = symbols("x"), Function("y")
     >>> differential_of([y(x).diff(x, 2) - x*y(x)], [y], x)
     Differential(unknowns=1, derivatives=2, powers=1, equations=({(2, 0, 1): 1, (0, 1, 1): -1},))
-    >>> differential_of(["y'' = x*y"], [y], x) == _
-    True
     """
     unknowns, variable = _unknowns(functions), _variable(x, "x")
 
-    def equation(given: Any, name: str) -> Mapping[tuple[int, int, int], int]:
-        if isinstance(given, str):
-            return _typed_differential(given, unknowns, variable, name).equations[0]
+    def equation(given: Any, name: str) -> dict[tuple[int, int, int], int]:
         return _differential(_expression(given, name), unknowns, variable)
 
     found = each(equation, equations, "equations")
@@ -152,14 +140,14 @@ def _variable(given: Any, name: str) -> Any:
 
 
 def _expression(given: Any, name: str) -> Any:
-    """What is to be 0. Only objects of SymPy, ints and Fractions come here; no text is read, nothing is made a text."""
+    """What is to be 0. Only objects of SymPy, ints and Fractions are taken; no text is read, nothing is made a text."""
     if isinstance(given, int) and not isinstance(given, bool):
         return sympy.Integer(whole(given, name))
     if isinstance(given, Fraction):
         return sympy.Rational(whole(given.numerator, name), whole(given.denominator, name))
     if not isinstance(given, sympy.Basic):
         how = "; write sympy.Eq(a, b) for a = b" if isinstance(given, bool) else ""
-        raise wanted(name, "an expression or Eq of SymPy, an int, a Fraction or a text", given, how)
+        raise wanted(name, "an expression or Eq of SymPy, an int or a Fraction", given, how)
     # A part that is none of SymPy's objects would be parsed when the whole is made anew.
     if not all(isinstance(part, sympy.Basic) for part in sympy.preorder_traversal(given)):
         raise TypeError(f"{name}: a part of it is no object of SymPy")
@@ -170,41 +158,6 @@ def _expression(given: Any, name: str) -> Any:
     if given.has(sympy.Float):
         raise ValueError(f"{_told(given)} has a float, which is not exact; write sympy.Rational")
     return sympy.expand(given.lhs - given.rhs if isinstance(given, sympy.Equality) else given)
-
-
-def _names(functions: Sequence[Any], variable: Any, called: str, name: str) -> list[str]:
-    """The names of the unknowns of a text, whose variable has to be called as texts call it."""
-    if variable.name != called:
-        told = f"the variable of a text is {called}, and the argument {called} is {short(variable.name)!r}"
-        raise ValueError(f"{name}: {told}: give sympy.Symbol({called!r}), or an expression of SymPy in place of the text")
-    return [function.__name__ for function in functions]
-
-
-def _one(name: str, what: str, counts: dict[str, int], is_bare: bool) -> None:
-    """Refuses a text that has not one equation, or relation, and nothing else, or whose first line says more than names."""
-    if any(count != (kind == what) for kind, count in counts.items()):
-        found = ", ".join(f"{count} {kind}{'' if count == 1 else 's'}" for kind, count in counts.items())
-        raise ValueError(f"{name}: a text with one {what} is wanted, and this one has {found}")
-    if not is_bare:
-        raise ValueError(f"{name}: the text has a first line with sizes or an order, which are no part of one {what}: leave it out")
-
-
-def _typed(given: str, functions: Sequence[Any], n: Any, name: str, what: str = "equation") -> System:
-    """The system of a text that has one equation, or one relation."""
-    found = typed.system(given, _names(functions, n, "n", name), name)
-    used = [block for e in [*found.equations, *(r.equation for r in found.relations)] for block, _ in e.terms] or [0]
-    is_bare = (found.highest, found.lowest, found.order) == (max(used), min(used), ())
-    _one(name, what, {"equation": len(found.equations), "relation": len(found.relations)}, is_bare)
-    return found
-
-
-def _typed_differential(given: str, functions: Sequence[Any], x: Any, name: str) -> Differential:
-    """The differential equations of a text that has one."""
-    found = typed.differential(given, _names(functions, x, "x", name), name)
-    places = [place for one in found.equations for place in one] or [(0, 0, 0)]
-    is_bare = (found.derivatives, found.powers) == (max(k for k, _, _ in places), max(j for _, j, _ in places))
-    _one(name, "equation", {"equation": len(found.equations)}, is_bare)
-    return found
 
 
 def _told(given: Any) -> str:

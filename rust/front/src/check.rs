@@ -30,10 +30,9 @@ pub fn with_place(refusal: Refusal, file: &str, sheet: &[u8], is_differential: b
     }
 }
 
-/// What to do where the bytes are a sheet of the other kind, or equations; no bytes are two of these.
+/// What to do where the bytes are a sheet of the other kind; no bytes are one of both.
 fn other_kind(sheet: &[u8], is_differential: bool) -> &'static str {
     match (Judge::new(!is_differential).read(sheet), is_differential) {
-        (Err(_), _) if sheet.contains(&b'=') => "; of equations `wurgalm type` makes a sheet",
         (Err(_), _) => "",
         (Ok(_), false) => "; this is a differential sheet, which --differential reads as one",
         (Ok(_), true) => {

@@ -147,22 +147,12 @@ impl Arguments {
     }
 
     /// The value of an option, the first where it may stand several times, which is taken out.
-    fn given(&mut self, name: &str) -> Result<Option<OsString>, End> {
+    pub fn value(&mut self, name: &str) -> Result<Option<String>, End> {
         self.sound()?;
         let Some(at) = self.options.iter().position(|(known, _)| known == name) else { return Ok(None) };
         let (_, value) = self.options.remove(at);
-        Ok(Some(value.unwrap_or_default()))
-    }
-
-    /// The value of an option as text.
-    pub fn value(&mut self, name: &str) -> Result<Option<String>, End> {
-        let text = self.given(name)?.map(OsString::into_string).transpose();
-        text.map_err(|_| End::Misused(format!("the value of {name} is no UTF-8 text")))
-    }
-
-    /// The file that is the value of an option.
-    pub fn file(&mut self, name: &str) -> Result<Option<FileName>, End> {
-        Ok(self.given(name)?.map(|given| FileName::from(&given[..])))
+        let text = value.unwrap_or_default().into_string();
+        text.map(Some).map_err(|_| End::Misused(format!("the value of {name} is no UTF-8 text")))
     }
 
     /// The files: between `least` and `most` of them, and no option that is not known.

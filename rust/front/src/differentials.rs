@@ -62,7 +62,7 @@ pub(crate) fn sheet_of(
     let mut text = format!("3 {} {derivatives} {powers}\n{}\n", names.len(), statements.len());
     for (at, statement) in statements.iter().enumerate() {
         if at >= EQUATIONS {
-            return unread(statement.place, "6 equations are the most: leave out what follows from others");
+            return unread(statement.place, "six equations are the most");
         }
         if !statement.linear.free.is_empty() {
             let reason = "an equation of a differential sheet has an unknown in every term";
@@ -80,25 +80,14 @@ fn line(statement: &Statement, derivatives: i64, powers: i64) -> Result<String, 
     for (&(k, c), (p, place)) in &statement.linear.terms {
         let p: &Polynomial = p;
         if !p.is_empty() && k > derivatives {
-            let reason = format!("{k} primes, and {derivatives} are the most here");
-            return unread(
-                *place,
-                reason + ": let another unknown stand for a derivative, as M = w'', or mend the first line",
-            );
+            return unread(*place, format!("{k} primes, and {derivatives} are the most here"));
         }
         if p.len() as i64 > powers + 1 {
-            let reason = format!("the power {} of x, and {powers} is the highest here", p.len() - 1);
-            return unread(
-                *place,
-                reason + ": let another unknown stand for a product, as z = x*y, or mend the first line",
-            );
+            return unread(*place, format!("the power {} of x, and {powers} is the highest here", p.len() - 1));
         }
         for (j, &a) in p.iter().enumerate().filter(|(_, &a)| a != 0) {
             if a.unsigned_abs() > FACTOR {
-                return unread(
-                    *place,
-                    format!("the factor {a} is past ±1,048,576: divide the equation, or scale an unknown"),
-                );
+                return unread(*place, format!("the factor {a} is past ±1,048,576"));
             }
             terms.insert((-k, j, c), a);
         }

@@ -144,16 +144,7 @@ impl Reader {
         if self.has(sign) {
             return Ok(());
         }
-        let missing = format!("`{sign}` is missing, here stands {}", self.word());
-        let hint = match (sign, self.word()) {
-            ('=', Word::LineEnd | Word::End | Word::Sign(';')) => {
-                "; what is to be zero is written with `= 0` behind it"
-            }
-            (':', _) => "; a relation begins with at n = NUMBER:",
-            (')', Word::Sign('=')) => "",
-            _ => self.misplaced(),
-        };
-        unread(self.place(), missing + hint)
+        unread(self.place(), format!("`{sign}` is missing, here stands {}{}", self.word(), self.misplaced()))
     }
 
     /// What to write for a sign that often stands where it cannot.
@@ -163,14 +154,8 @@ impl Reader {
             Word::Sign('*') => "; a power is written with ^",
             Word::Sign('^') => "; a power of a power needs brackets",
             Word::Sign(',') => {
-                "; `;` or the end of a line stands between equations, nothing between the digits of a number, and \
-                 decimals are not read: multiply the equation so that its coefficients are integers"
+                "; `;` or the end of a line stands between equations, and nothing between the digits of a number"
             }
-            Word::Sign('=') => "; an equation has one `=`, and `;` or the end of its line behind it",
-            Word::Sign(':') => "; `:` stands behind at n = NUMBER alone",
-            Word::Sign('+' | '-') => "; a factor with a sign needs brackets: 2*(-1)",
-            Word::Sign(')') => "; every `)` has a `(` before it, and something between them",
-            Word::LineEnd => "; inside brackets alone an equation goes on in the next line",
             _ => "",
         }
     }
@@ -221,20 +206,18 @@ impl Reader {
             let both = match (product.terms.is_empty(), has_unknown) {
                 (true, _) => factor.times(&product.free),
                 (_, false) => product.times(&factor.free),
-                _ => return unread(place, self.not_linear("a product of two unknowns")),
+                _ => return unread(place, self.not_linear()),
             };
             product = fitting(both, place)?;
         }
     }
 
-    fn not_linear(&self, what: &str) -> String {
+    fn not_linear(&self) -> String {
         let hint = match self.kind {
-            Kind::Differential => {
-                "; every name but x is an unknown: write a parameter as its number, a derivative with primes"
-            }
+            Kind::Differential => "; the variable is x, and every other name is an unknown",
             Kind::Recurrence { .. } => "",
         };
-        format!("{what}: equations have to be linear{hint}")
+        format!("a product of two unknowns: equations have to be linear{hint}")
     }
 
     /// Whether a factor follows without a `*`. What could also be something else than a product is refused.
@@ -280,10 +263,10 @@ impl Reader {
         if !self.has('^') {
             return Ok(base);
         }
-        if !base.terms.is_empty() {
-            return unread(place, self.not_linear("a power of an unknown"));
-        }
         let power = self.power()?;
+        if !base.terms.is_empty() {
+            return unread(place, "a power of an unknown: equations have to be linear");
+        }
         let mut product = Some(vec![1]);
         for _ in 0..power {
             product = product.and_then(|product| times(&product, &base.free));
@@ -299,11 +282,7 @@ impl Reader {
                 self.pass();
                 return Ok(power);
             }
-            Word::Sign('(') if matches!(self.ahead(1), Word::Number(_)) && *self.ahead(2) == Word::Sign(')') => {
-                "; write it without brackets"
-            }
             Word::Name(_) | Word::Sign('(') => "; an exponential is an unknown with an equation of its own",
-            Word::Sign('-') => "; multiply the equation so that no power is negative",
             _ => "",
         };
         let reason = format!("a power is a number from 0 to {POWER}, here stands {}", self.word());
@@ -369,10 +348,6 @@ impl Reader {
         if self.kind == Kind::Differential && name == "n" {
             return unread(place, self.mixed());
         }
-        let is_without_index = matches!(self.kind, Kind::Recurrence { .. }) && *self.word() != Word::Sign('(');
-        if is_without_index && name.ends_with("_n") {
-            return unread(place, self.without_index(name));
-        }
         let column = self.names.column(name, place)?;
         let key = match self.kind {
             Kind::Recurrence { at } => self.index(name, place, at)?,
@@ -424,12 +399,8 @@ impl Reader {
     fn without_index(&self, name: &str) -> String {
         let written = name.strip_suffix("_n").filter(|letters| !letters.is_empty()).unwrap_or(name);
         let has_n = self.words.iter().any(|(word, _)| *word == Word::Name("n".into())) || written != name;
-        if name.eq_ignore_ascii_case("unknowns") {
-            return "the first line begins with `unknowns`, in small letters".into();
-        }
         let hint = if has_n { "" } else { "; a differential equation has primes, or is typed with --differential" };
-        let written = format!("write {written}(n), {written}(n+1) and so on, and a parameter as its number");
-        format!("`{name}` has no index: {written}{hint}")
+        format!("`{name}` has no index: write {written}(n), {written}(n+1) and so on{hint}")
     }
 
     /// The index of an unknown, as its block.
@@ -460,10 +431,7 @@ impl Reader {
         };
         match i64::try_from(block) {
             Ok(block) if (-BLOCK..=BLOCK).contains(&block) => Ok(block),
-            _ => {
-                let reason = format!("n{block:+}: an index is at most {BLOCK} away from n");
-                unread(named, reason + ": count the sequence from another place")
-            }
+            _ => unread(named, format!("n{block:+}: an index is at most {BLOCK} away from n")),
         }
     }
 }

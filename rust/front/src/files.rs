@@ -1,6 +1,7 @@
 //! Files that the command writes: whole or not at all, and never over what it reads.
 
 use crate::command::{named, End, FileName};
+use crate::output::shown_name;
 use std::fs::{self, File, Metadata, OpenOptions};
 use std::io::{self, ErrorKind, Write};
 use std::os::unix::fs::MetadataExt;
@@ -10,8 +11,8 @@ use std::process;
 /// Names that are tried for the file beside.
 const TRIES: usize = 100;
 
-fn failed<T>(path: &FileName, why: impl std::fmt::Display) -> Result<T, End> {
-    Err(End::Failed(format!("{}: {why}", &**path)))
+fn failed<T>(path: &str, why: impl std::fmt::Display) -> Result<T, End> {
+    Err(End::Failed(format!("{}: {why}", shown_name(path))))
 }
 
 /// What stands behind the name of an input.
@@ -21,11 +22,11 @@ fn input(file: &FileName) -> io::Result<Metadata> {
 
 /// The file that is to be written, behind all links, and what stands there. It is none of the inputs, and may be
 /// replaced.
-pub fn target(path: &FileName, inputs: &[&FileName]) -> Result<(PathBuf, Option<Metadata>), End> {
+pub fn target(path: &str, inputs: &[&FileName]) -> Result<(PathBuf, Option<Metadata>), End> {
     let there = match fs::metadata(path) {
         Ok(there) => there,
         Err(error) if error.kind() == ErrorKind::NotFound && fs::symlink_metadata(path).is_err() => {
-            return Ok((PathBuf::from(path.as_ref()), None));
+            return Ok((path.into(), None));
         }
         Err(error) => return failed(path, error),
     };
@@ -75,7 +76,7 @@ fn replace(path: &Path, there: Option<Metadata>, bytes: &[u8]) -> io::Result<()>
 }
 
 /// Writes a file whole or not at all, and over none of the inputs.
-pub fn write(path: &FileName, bytes: &[u8], inputs: &[&FileName]) -> Result<(), End> {
+pub fn write(path: &str, bytes: &[u8], inputs: &[&FileName]) -> Result<(), End> {
     let (place, there) = target(path, inputs)?;
     replace(&place, there, bytes).or_else(|error| failed(path, error))
 }

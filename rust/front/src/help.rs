@@ -14,12 +14,12 @@ const PAGES: &[(&str, &str, &str)] = &[
     ),
     (
         "type",
-        "[--differential] [--names X,Y,..] [--explain] [-e TEXT | FILE]",
+        "[--differential] [--explain] [-e TEXT | FILE]",
         "Makes a sheet of equations, a line or a `;` after each: `n*x(n+1) - y(n) = 0; x(n+1) = x(n)`. Unknowns have any names and\n\
          are columns in the order in which they occur; # begins a remark. A relation is `at n = 0: x(1) = x(0)`. With primes, as\n\
          `x^2*y'' + x*y' + (x^2 - 1)*y = 0`, it makes a differential sheet. A first line `unknowns x, y; l = 1; t = 0; order x`\n\
-         or `unknowns y; derivatives 2; powers 2` may say what the equations leave open; --names x,y names the unknowns too. What\n\
-         was read is written to standard error, unless the unknowns are named so; --explain writes it in any case.\n",
+         or `unknowns y; derivatives 2; powers 2` may say what the equations leave open. --explain writes the columns and what was\n\
+         read to standard error.\n",
     ),
     (
         "check",

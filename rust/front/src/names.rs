@@ -28,7 +28,7 @@ pub struct Names {
     /// Those with a prime or `(x)` behind them somewhere, so that they are no numbers.
     marked: BTreeSet<String>,
     unknowns: Vec<Unknown>,
-    /// Whether the first line, or whoever asks, has named all of them.
+    /// Whether the first line has named all of them.
     is_closed: bool,
 }
 
@@ -66,39 +66,16 @@ impl Names {
         self.unknowns.iter().map(|unknown| unknown.count).sum()
     }
 
-    /// No other unknown than those that are there.
+    /// No other unknown than those of the first line.
     pub fn close(&mut self) {
         self.is_closed = true;
-    }
-
-    /// Whether no other unknown can follow.
-    pub fn is_closed(&self) -> bool {
-        self.is_closed
-    }
-
-    /// No other unknowns than these, where there are some.
-    pub fn give(&mut self, names: &[String]) -> Result<(), Unread> {
-        for name in names {
-            self.declare(name, Place { line: 1, column: 1 })?;
-        }
-        self.is_closed = !names.is_empty();
-        Ok(())
-    }
-
-    /// A name that is not among those that were given first.
-    fn foreign<T>(&self, name: &str, place: Place) -> Result<T, Unread> {
-        let listed = self.list().join(", ");
-        unread(
-            place,
-            format!("`{name}` is none of the unknowns that are named ({listed}): name it there too, or mend it"),
-        )
     }
 
     /// The column of a name of the first line's order.
     pub fn known(&self, name: &str, place: Place) -> Result<usize, Unread> {
         match self.unknowns.iter().position(|unknown| unknown.name == name) {
             Some(at) => Ok(at + 1),
-            None => self.foreign(name, place),
+            None => unread(place, format!("`{name}` is none of the unknowns of the first line")),
         }
     }
 
@@ -126,12 +103,10 @@ impl Names {
 
     fn add(&mut self, name: &str, place: Place) -> Result<(), Unread> {
         if RESERVED.contains(&name) || name == self.variable {
-            let reason = format!("`{name}` has a meaning of its own and cannot be an unknown");
-            return unread(place, reason + ": give the unknown another name");
+            return unread(place, format!("`{name}` has a meaning of its own and cannot be an unknown"));
         }
         if self.unknowns.len() == MOST {
-            let reason = format!("`{name}` would be a fifth unknown, and four are the most");
-            return unread(place, reason + &format!("; they are {}", self.list().join(", ")));
+            return unread(place, format!("`{name}` would be a fifth unknown, and four are the most"));
         }
         self.unknowns.push(Unknown { name: name.into(), place, count: 0 });
         Ok(())
@@ -143,7 +118,7 @@ impl Names {
             return self.add(name, place);
         }
         if self.is_closed {
-            return self.foreign(name, place);
+            return unread(place, format!("`{name}` is none of the unknowns of the first line"));
         }
         match self.other_reading(name) {
             Some(other) => {
@@ -164,7 +139,7 @@ impl Names {
             instead =
                 "; an unknown with an equation of its own can stand for it: u' = u for exp(x), s'' = -s for sin(x)";
         }
-        if FUNCTIONS.split(' ').any(|function| function == lower || self.is_call(name, function)) {
+        if FUNCTIONS.split(' ').any(|function| function == lower) {
             let x = self.variable;
             return Some(format!("`{name}` is a function, and coefficients are polynomials in {x}{instead}"));
         }
@@ -173,12 +148,6 @@ impl Names {
         }
         let product = self.product(name)?;
         Some(format!("`{name}` is the product {product}, or one unknown: write {product} for the product"))
-    }
-
-    /// Whether a name is a function with the variable, or a number and the variable, directly behind it.
-    fn is_call(&self, name: &str, function: &str) -> bool {
-        let is_function = name.get(..function.len()).is_some_and(|begin| begin.eq_ignore_ascii_case(function));
-        is_function && name[function.len()..].trim_start_matches(|c: char| c.is_ascii_digit()) == self.variable
     }
 
     /// Whether a name is the variable with a number behind it, and a prime shows that it is an unknown.

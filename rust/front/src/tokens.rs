@@ -142,78 +142,20 @@ fn number(digits: &str, behind: &[char], place: Place) -> Result<Word, Unread> {
     }
 }
 
-/// Why a character cannot be read, and what to write for it.
+/// Why a sign cannot be read, and what to write for it.
 fn no_meaning(c: char, next: Option<char>) -> String {
+    let instead = match c {
+        '/' if next == Some('d') => return "derivatives are written with primes: y', y''".into(),
+        '/' => return "fractions are not read: multiply the equation so that its coefficients are integers".into(),
+        '.' => return "decimals are not read: multiply the equation so that its coefficients are integers".into(),
+        '[' | ']' | '{' | '}' => ": brackets and indices are written with ( and )",
+        '"' | '\u{2032}' | '\u{2033}' | '\u{2019}' | '`' => ": a prime is written as '",
+        '\u{2212}' | '\u{2013}' | '\u{2014}' => ": minus is written as -",
+        '\u{b7}' | '\u{d7}' | '\u{22c5}' => ": a product is written with *",
+        '\u{b2}' | '\u{b3}' => ": powers are written as ^2, ^3",
+        c if c.is_alphanumeric() => ": names have the letters a to z and A to Z, digits and _",
+        _ => "",
+    };
     let shown = if c.is_ascii_graphic() { c.to_string() } else { c.escape_debug().to_string() };
-    match (reason(c, next), instead(c)) {
-        (Some(reason), _) => reason.into(),
-        (None, instead) => format!("`{shown}` has no meaning here: {instead}"),
-    }
-}
-
-const FRACTIONS: &str = "fractions are not read: multiply the equation so that its coefficients are integers";
-const PRIMES: &str = "derivatives are written with primes: y', y''";
-
-/// What is not read, whatever character stands for it.
-fn reason(c: char, next: Option<char>) -> Option<&'static str> {
-    Some(match c {
-        '/' if next == Some('d') => PRIMES,
-        '/' if matches!(next, Some('/' | '*')) => {
-            "a remark begins with #, and goes to the end of its line: write # here"
-        }
-        '/' | '\u{f7}' | '\u{2044}' | '\u{2215}' | '\u{bc}'..='\u{be}' | '\u{2150}'..='\u{215f}' => FRACTIONS,
-        '.' if next.is_some_and(|next| next.is_ascii_digit()) => {
-            "decimals are not read: multiply the equation so that its coefficients are integers"
-        }
-        '\u{2202}' | '\u{2207}' => PRIMES,
-        '!' if next == Some('=') => "`!=` has no meaning here: only equations are read, with one =",
-        '!' => "factorials are not read: multiply the equation, or let an unknown stand for one: f(n+1) = (n+1)*f(n)",
-        '\u{221a}' | '\u{221b}' => {
-            "roots are not read: coefficients are polynomials with integer coefficients, and an unknown with an \
-             equation of its own can stand for another function"
-        }
-        '\u{222b}' | '\u{2211}' | '\u{220f}' => {
-            "integrals, sums and products are not read: an unknown with an equation of its own can stand for one: \
-             s' = y, or s(n+1) = s(n) + x(n)"
-        }
-        '\u{3c0}' | '\u{221e}' | '\u{212f}' => {
-            "a number that is no integer, and coefficients are integers: leave it out"
-        }
-        '\u{fffd}' => "bytes that are no text: save the text as UTF-8, and leave out what is no text",
-        '\0' => "a zero byte: save the text as UTF-8, and leave out what is no text",
-        _ => return None,
-    })
-}
-
-/// What to write for a character that is not read.
-fn instead(c: char) -> &'static str {
-    match c {
-        '[' | ']' | '{' | '}' => "brackets and indices are written with ( and )",
-        '<' | '>' | '\u{2260}' | '\u{2264}'..='\u{226b}' | '\u{2248}' | '\u{2261}' => "only equations are read, with =",
-        '|' => "absolute values are not read, write an equation for each sign",
-        '.' => "a product is written with *, and decimals are not read",
-        '%' => "a remark begins with #, and percent are written as integers",
-        '\\' | '$' | '&' => "a text is no LaTeX: write x(n+1), n^2, y'",
-        '`' | '\u{b4}' | '\u{2b9}' | '\u{2018}' | '\u{2019}' | '\u{2032}'..='\u{2034}' => "a prime is written as '",
-        '"' => "a prime is written as ', a second one as '', and a text has no quotes",
-        '\u{ab}' | '\u{bb}' | '\u{201a}'..='\u{201f}' => "a text has no quotes",
-        '\u{2010}'..='\u{2015}' | '\u{2212}' => "minus is written as -",
-        '\u{b1}' | '\u{2213}' => "write an equation for each sign",
-        '\u{b7}' | '\u{d7}' | '\u{2022}' | '\u{2217}' | '\u{2219}' | '\u{22c5}' => "a product is written with *",
-        '\u{b2}' | '\u{b3}' | '\u{b9}' | '\u{2070}'..='\u{207f}' => "powers are written as ^2, ^3",
-        '\u{2080}'..='\u{209c}' => "indices are written as x(n), x(n+1), and a number of a name as x1",
-        '\u{2190}'..='\u{21ff}' => "equations are written with =",
-        '\u{ff01}'..='\u{ff5e}' => "write it as a plain letter, digit or sign",
-        '\u{85}' | '\u{2028}' | '\u{2029}' => "a line ends with LF, CR LF or CR",
-        c if c.is_whitespace() => "a blank is a space or a tab",
-        c if c.is_control() || is_invisible(c) => "leave it out, it cannot be seen",
-        c if c.is_numeric() => "numbers have the digits 0 to 9",
-        c if c.is_alphanumeric() => "names have the letters a to z and A to Z, digits and _",
-        _ => "a text has names, integers, + - * ^ ( ) = ; : , ' and remarks behind #",
-    }
-}
-
-/// Whether a character takes no place on a page.
-fn is_invisible(c: char) -> bool {
-    matches!(c, '\u{ad}' | '\u{200b}'..='\u{200f}' | '\u{202a}'..='\u{202e}' | '\u{2060}'..='\u{206f}' | '\u{feff}')
+    format!("`{shown}` has no meaning here{instead}")
 }

@@ -6,7 +6,7 @@ use crate::tokens::{unread, words, Place, Unread, Word};
 use wurgalm::System;
 
 /// A text of more bytes is not looked at: what `wurgalm show` writes of the longest sheet is shorter.
-const LONGEST: usize = 1 << 18;
+const LONGEST: usize = 1 << 20;
 /// No coefficient and no n0 of a sheet is past ± this (SCOPE 1.4, 1.22).
 const C: i128 = 268_435_455;
 /// The highest power of n (SCOPE 1.4).
@@ -41,8 +41,6 @@ pub struct Typed {
     pub is_differential: bool,
     /// The unknowns in the order of their columns.
     pub names: Vec<String>,
-    /// Whether the equations have introduced the names: neither the first line nor the caller has them.
-    pub is_introduced: bool,
     /// Which unknowns a misprint could have made, and where they are met first.
     pub doubts: Vec<String>,
 }
@@ -55,11 +53,6 @@ pub fn sheet_of(text: &str, is_differential: bool) -> Result<Vec<u8>, Unread> {
 /// Reads a text. It is taken for a differential one where it has primes or its first line says so, or where that is
 /// asked for.
 pub fn read(text: &str, is_differential: bool) -> Result<Typed, Unread> {
-    read_named(text, is_differential, &[])
-}
-
-/// Reads a text whose unknowns are these and no others, in this order; those that it introduces where none are given.
-pub fn read_named(text: &str, is_differential: bool, given: &[String]) -> Result<Typed, Unread> {
     if text.len() > LONGEST {
         return unread(Place { line: 1, column: 1 }, format!("a text has at most {LONGEST} bytes"));
     }
@@ -68,7 +61,6 @@ pub fn read_named(text: &str, is_differential: bool, given: &[String]) -> Result
     let is_differential = is_differential || words.iter().any(|(word, _)| tells(word));
     let kind = if is_differential { Kind::Differential } else { Kind::Recurrence { at: None } };
     let mut reader = Reader::new(words, kind);
-    reader.names.give(given)?;
     let (heading, statements) = reader.all()?;
     let names = reader.names.list();
     let make = if is_differential { differentials::sheet_of } else { recurrence };
@@ -76,7 +68,7 @@ pub fn read_named(text: &str, is_differential: bool, given: &[String]) -> Result
     let equations = statements.iter().filter(|statement| statement.n0.is_none()).count();
     let remains = |column: usize| occurring(&statements).any(|((_, c), _)| *c == column);
     let doubts = reader.names.doubts(equations, remains);
-    Ok(Typed { sheet, is_differential, names, is_introduced: !reader.names.is_closed(), doubts })
+    Ok(Typed { sheet, is_differential, names, doubts })
 }
 
 /// The terms of all statements that have not cancelled.
@@ -118,8 +110,7 @@ impl Reader {
         loop {
             let place = self.place();
             let Word::Name(name) = self.word().clone() else {
-                let reason = format!("the name of an unknown is missing, here stands {}", self.word());
-                return unread(place, reason + ": names stand as in `unknowns x, y`");
+                return unread(place, format!("the name of an unknown is missing, here stands {}", self.word()));
             };
             self.pass();
             each(self, &name, place)?;
@@ -131,33 +122,14 @@ impl Reader {
 
     /// `unknowns x, y; l = 1; t = 0; order x, y` or `unknowns y; derivatives 2; powers 2`, behind its first word.
     fn first_line(&mut self, heading: &mut Heading) -> Result<(), Unread> {
-        let (given, is_given) = (self.names.list(), self.names.is_closed());
-        let mut listed = Vec::new();
-        self.list(|reader, name, place| {
-            listed.push(name.to_string());
-            if is_given {
-                return Ok(());
-            }
-            reader.names.declare(name, place)
-        })?;
-        if is_given && listed != given {
-            let (listed, given) = (listed.join(", "), given.join(", "));
-            let reason = format!("the first line has the unknowns {listed}, and {given} are asked for");
-            return unread(
-                heading.place,
-                reason + ": write the same names, in the same order, or leave one of the two out",
-            );
-        }
+        self.list(|reader, name, place| reader.names.declare(name, place))?;
         self.names.close();
         while self.has(';') {
             self.part(heading)?;
         }
         match self.word() {
             Word::LineEnd | Word::End => Ok(()),
-            word => {
-                let reason = format!("the first line could end here; {word} does not fit");
-                unread(self.place(), reason + ": names have commas between them, parts of the line have `;`")
-            }
+            word => unread(self.place(), format!("the first line could end here; {word} does not fit")),
         }
     }
 
@@ -275,14 +247,10 @@ impl Reader {
 /// The coefficients of a sheet for a polynomial that was typed.
 fn coefficients(polynomial: &Polynomial, place: Place) -> Result<Vec<i64>, Unread> {
     if polynomial.len() > DEGREE + 1 {
-        let reason = format!("the power {} of n is past 15", polynomial.len() - 1);
-        return unread(place, reason + ": let another unknown stand for a product, as z(n) = n*x(n)");
+        return unread(place, format!("the power {} of n is past 15", polynomial.len() - 1));
     }
     match polynomial.iter().find(|a| a.unsigned_abs() > C as u128) {
-        Some(a) => {
-            let reason = format!("the coefficient {a} is past ±268,435,455");
-            unread(place, reason + ": divide the equation, or scale an unknown")
-        }
+        Some(a) => unread(place, format!("the coefficient {a} is past ±268,435,455")),
         None => Ok(polynomial.iter().map(|&a| a as i64).collect()),
     }
 }
@@ -298,8 +266,10 @@ fn blocks(heading: &Heading, statements: &[Statement]) -> Result<(i64, i64), Unr
             return unread(*place, format!("n{s:+} is outside the first line's l = {l} and t = {t}"));
         }
         if l - s > SPAN {
-            let reason = format!("the indices reach from n{l:+} to n{s:+}, and n{:+} is the lowest then", l - SPAN);
-            return unread(*place, reason + ": let another unknown stand for one of them, as y(n) = x(n+1)");
+            return unread(
+                *place,
+                format!("the indices reach from n{l:+} to n{s:+}, and n{:+} is the lowest then", l - SPAN),
+            );
         }
     }
     if !(0..=SPAN).contains(&(l - t)) {
@@ -319,8 +289,7 @@ fn recurrence(names: &[String], heading: &Heading, statements: &[Statement], end
         let kind = usize::from(n0.is_some());
         counts[kind] += 1;
         if counts[kind] > MOST[kind] {
-            let reason = format!("{} {} are the most", MOST[kind], ["equations", "relations"][kind]);
-            return unread(*place, reason + ": leave out what follows from others");
+            return unread(*place, format!("{} {} are the most", MOST[kind], ["equations", "relations"][kind]));
         }
         let read = |(&(s, c), (p, place)): (&(i64, usize), &(Polynomial, Place))| Ok((s, c, coefficients(p, *place)?));
         let occurring = linear.terms.iter().filter(|(_, (p, _))| !p.is_empty());

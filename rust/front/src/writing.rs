@@ -122,26 +122,18 @@ pub fn system(system: &System, names: &[String]) -> String {
     text
 }
 
-/// One to four different names, separated by commas, none of which has a meaning of its own.
-pub fn listed_names(option: String) -> Result<Vec<String>, String> {
-    let names: Vec<String> = option.split(',').map(String::from).collect();
-    let is_right = |name: &String| is_name(name) && !RESERVED.contains(&&name[..]);
+/// The names that an option gives, separated by commas, or others that are usual.
+pub fn names(option: Option<String>, usual: [&str; 4]) -> Result<Vec<String>, String> {
+    // Where x is the variable it is not among the usual names.
+    let is_free = |name: &str| !RESERVED.contains(&name) && (name != "x" || usual.contains(&"x"));
+    let Some(option) = option else { return Ok(usual.map(String::from).to_vec()) };
+    let mut names: Vec<String> = option.split(',').map(String::from).collect();
+    let is_right = |name: &String| is_name(name) && is_free(name);
     let is_new = |at: usize| !names[..at].contains(&names[at]);
     if names.len() > 4 || !names.iter().all(is_right) || !(0..names.len()).all(is_new) {
         return Err(
             "--names wants one to four different names, none of them the variable, with commas between them".into()
         );
-    }
-    Ok(names)
-}
-
-/// The names that an option gives, or others that are usual.
-pub fn names(option: Option<String>, usual: [&str; 4]) -> Result<Vec<String>, String> {
-    let Some(option) = option else { return Ok(usual.map(String::from).to_vec()) };
-    let mut names = listed_names(option)?;
-    // Where x is the variable it is not among the usual names.
-    if !usual.contains(&"x") && names.iter().any(|name| name == "x") {
-        return Err("--names: x is the variable of differential equations, and no unknown is called so".into());
     }
     // Names that are not given are made up, so that every column has one.
     for number in names.len() + 1..=4 {

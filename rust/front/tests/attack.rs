@@ -247,7 +247,7 @@ fn files(random: &mut Random, folder: &Folder, name: &str) -> Vec<OsString> {
 /// tested as a process.
 const SUBCOMMANDS: &[(&str, &[&str])] = &[
     ("show", &["--differential", "--names="]),
-    ("type", &["--differential", "--explain", "--names="]),
+    ("type", &["--differential"]),
     ("check", &["--differential"]),
     ("run", &["--trailing", "--sheet", "--json", "--differential", "--names="]),
     ("induce", &["--sheet", "--names=", "--differential"]),

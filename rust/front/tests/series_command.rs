@@ -76,20 +76,11 @@ fn names_are_those_of_the_model() {
     let folder = Folder::new("names");
     let (sheet, plot) = (folder.file("a.sheet", PLAIN), folder.path("a.svg"));
     let wrong: [(&[&str], &str); 10] = [
-        (&["--start", "z(0)=5"], "there is no unknown `z`: the names are x, y, and --names gives others"),
-        (&["--start", "w(0)=5"], "there is no unknown `w`: the names are x, y, and --names gives others"),
-        (
-            &["--names", "u,v", "--start", "x(0)=5"],
-            "there is no unknown `x`: the names are u, v, and --names gives others",
-        ),
-        (
-            &["--names", "u,v,k", "--start", "k(0)=5"],
-            "there is no unknown `k`: the names are u, v, and --names gives others",
-        ),
-        (
-            &["--of", "w", "--start", "x(0)=1,y(0)=1", "--plot", &plot],
-            "there is no unknown `w`: the names are x, y, and --names gives others",
-        ),
+        (&["--start", "z(0)=5"], "there is no unknown `z`: the names are x, y"),
+        (&["--start", "w(0)=5"], "there is no unknown `w`: the names are x, y"),
+        (&["--names", "u,v", "--start", "x(0)=5"], "there is no unknown `x`: the names are u, v"),
+        (&["--names", "u,v,k", "--start", "k(0)=5"], "there is no unknown `k`: the names are u, v"),
+        (&["--of", "w", "--start", "x(0)=1,y(0)=1", "--plot", &plot], "there is no unknown `w`: the names are x, y"),
         (&["--start", "x(0)=1,x(0)=1"], "--start gives x(0) twice"),
         (&["--start", "x(0)=1, x( 0 )=2"], "--start gives x(0) twice"),
         (&["--start", "x(9)=1"], "x(9) is outside the indices 0 to 7"),

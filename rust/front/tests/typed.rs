@@ -1,7 +1,7 @@
 //! What a person may type, and the place of what cannot be read.
 
 use compare::random::Random;
-use front::typing::{read, read_named, sheet_of};
+use front::typing::sheet_of;
 use wurgalm::System;
 
 fn typed(text: &str) -> String {
@@ -64,9 +64,6 @@ const TWO_READINGS: &[(&str, &str)] = &[
 const NOT_READ: &[(&str, &str)] = &[
     ("y'' + y = sin(x)", "line 1, column 11: `sin` is a function"),
     ("y'' + y = sin x", "line 1, column 11: `sin` is a function"),
-    ("y'' + y = sinx", "line 1, column 11: `sinx` is a function"),
-    ("y'' + y = Cos2x", "line 1, column 11: `Cos2x` is a function"),
-    ("x(n+1) = lnn(n)", "line 1, column 10: `lnn` is a function"),
     ("y'' = Exp(x)", "line 1, column 7: `Exp` is a function"),
     ("x(n+1) = sqrt(n)", "line 1, column 10: `sqrt` is a function"),
     ("y' = e^x", "line 1, column 6: `e` is a number that is no integer"),
@@ -141,136 +138,6 @@ fn places() {
     assert!(unread(&deep).contains("too many brackets"));
 }
 
-/// Characters that no text has, and what is told instead of them.
-const CHARACTERS: &[(&str, &str)] = &[
-    (
-        "n! x(n) = 0",
-        "line 1, column 2: factorials are not read: multiply the equation, or let an unknown stand for one",
-    ),
-    ("x(n) != 0", "line 1, column 6: `!=` has no meaning here: only equations are read"),
-    ("|x(n)| = 0", "line 1, column 1: `|` has no meaning here: absolute values are not read"),
-    ("x(n) \u{2265} 0", "line 1, column 6: `\u{2265}` has no meaning here: only equations are read, with ="),
-    ("x(n) < 0", "line 1, column 6: `<` has no meaning here: only equations are read, with ="),
-    ("n\u{b2} x(n) = 0", "line 1, column 2: `\u{b2}` has no meaning here: powers are written as ^2"),
-    ("n\u{2074} x(n) = 0", "line 1, column 2: `\u{2074}` has no meaning here: powers are written as ^2"),
-    ("x\u{2080} = 0", "line 1, column 2: `\u{2080}` has no meaning here: indices are written as x(n), x(n+1)"),
-    ("x\u{2099} = 0", "line 1, column 2: `\u{2099}` has no meaning here: indices are written as x(n), x(n+1)"),
-    ("\u{221a}2 x(n) = 0", "line 1, column 1: roots are not read: coefficients are polynomials"),
-    ("\u{2202}y = y", "line 1, column 1: derivatives are written with primes: y', y''"),
-    ("\u{222b} y = 1", "line 1, column 1: integrals, sums and products are not read: an unknown with an equation"),
-    (
-        "y'' + \u{3c0} y = 0",
-        "line 1, column 7: a number that is no integer, and coefficients are integers: leave it out",
-    ),
-    ("y' = \u{3b1} y", "line 1, column 6: `\u{3b1}` has no meaning here: names have the letters a to z"),
-    ("\u{fc}(n) = 0", "line 1, column 1: `\u{fc}` has no meaning here: names have the letters a to z"),
-    ("y\u{2019} = y", "line 1, column 2: `\u{2019}` has no meaning here: a prime is written as '"),
-    ("y\u{2033} = y", "line 1, column 2: `\u{2033}` has no meaning here: a prime is written as '"),
-    ("\"x(n) = 0\"", "line 1, column 1: `\"` has no meaning here: a prime is written as ', a second one as ''"),
-    ("\u{201e}x(n) = 0\u{201c}", "line 1, column 1: `\u{201e}` has no meaning here: a text has no quotes"),
-    ("x(n) \u{2212} 1 = 0", "line 1, column 6: `\u{2212}` has no meaning here: minus is written as -"),
-    ("2\u{d7}x(n) = 0", "line 1, column 2: `\u{d7}` has no meaning here: a product is written with *"),
-    ("\u{bd} x(n) = 0", "line 1, column 1: fractions are not read: multiply the equation"),
-    ("x(n)\u{f7}2 = 0", "line 1, column 5: fractions are not read: multiply the equation"),
-    ("x(n) = 0 // all", "line 1, column 10: a remark begins with #, and goes to the end of its line: write #"),
-    ("x(n) = 0 /* all */", "line 1, column 10: a remark begins with #, and goes to the end of its line: write #"),
-    ("x(n) = 0 % all", "line 1, column 10: `%` has no meaning here: a remark begins with #"),
-    ("\\frac{1}{2} x(n) = 0", "line 1, column 1: `\\` has no meaning here: a text is no LaTeX"),
-    ("x[n+1] = x[n]", "line 1, column 2: `[` has no meaning here: brackets and indices are written with ( and )"),
-    ("x_{n+1} = x_n", "line 1, column 3: `{` has no meaning here: brackets and indices are written with ( and )"),
-    ("x(n)\u{200b} = 0", "line 1, column 5: `\\u{200b}` has no meaning here: leave it out, it cannot be seen"),
-    ("x(n)\u{2009}= 0", "line 1, column 5: `\\u{2009}` has no meaning here: a blank is a space or a tab"),
-    ("x(n) \u{ff1d} 0", "line 1, column 6: `\u{ff1d}` has no meaning here: write it as a plain letter"),
-    ("\u{663} x(n) = 0", "line 1, column 1: `\u{663}` has no meaning here: numbers have the digits 0 to 9"),
-    ("x(n) \u{2192} 0", "line 1, column 6: `\u{2192}` has no meaning here: equations are written with ="),
-    ("x(n) = \u{fffd}", "line 1, column 8: bytes that are no text: save the text as UTF-8"),
-    ("x(n) @ 0", "line 1, column 6: `@` has no meaning here: a text has names, integers, + - * ^ ( ) = ; : , ' and"),
-];
-
-/// Signs that a text has, in places where they have no meaning.
-const SIGNS: &[(&str, &str)] = &[
-    (
-        "x(n) == 0",
-        "line 1, column 7: an unknown, a number or a bracket is missing, here stands `=`; an equation has one `=`",
-    ),
-    ("x(n) = 0 = 0", "line 1, column 10: the equation could end here; `=` does not fit; an equation has one `=`"),
-    ("x(n+1) := x(n)", "line 1, column 8: `=` is missing, here stands `:`; `:` stands behind at n = NUMBER alone"),
-    (
-        "x(n+1) - x(n)",
-        "line 1, column 14: `=` is missing, here stands the end of the line; what is to be zero is written",
-    ),
-    ("x(n+1); x(n) = 0", "line 1, column 7: `=` is missing, here stands `;`; what is to be zero is written with `= 0`"),
-    ("x(n) = 0,5", "line 1, column 9: the equation could end here; `,` does not fit; `;` or the end of a line stands"),
-    ("n**2 x(n) = 0", "line 1, column 3: an unknown, a number or a bracket is missing, here stands `*`; a power is"),
-    (
-        "n^(2) x(n) = 0",
-        "line 1, column 3: a power is a number from 0 to 64, here stands `(`; write it without brackets",
-    ),
-    ("n^(n+1) x(n) = 0", "line 1, column 3: a power is a number from 0 to 64, here stands `(`; an exponential is"),
-    ("n^-1 x(n) = 0", "line 1, column 3: a power is a number from 0 to 64, here stands `-`; multiply the equation"),
-    ("n^2^3 x(n) = 0", "line 1, column 4: `=` is missing, here stands `^`; a power of a power needs brackets"),
-    (
-        "x(n) = 2*-1",
-        "line 1, column 10: an unknown, a number or a bracket is missing, here stands `-`; a factor with a sign",
-    ),
-    (
-        "x(n+1) =\n x(n)",
-        "line 1, column 9: an unknown, a number or a bracket is missing, here stands the end of the line; inside brackets",
-    ),
-    ("x(n) = ()", "line 1, column 9: an unknown, a number or a bracket is missing, here stands `)`; every `)` has"),
-    ("x(n)) = 0", "line 1, column 5: `=` is missing, here stands `)`; every `)` has a `(` before it"),
-    ("at n = 0 x(0) = 1", "line 1, column 10: `:` is missing, here stands `x`; a relation begins with at n = NUMBER:"),
-    ("unknowns x y\nx(n) = 0", "line 1, column 12: the first line could end here; `y` does not fit: names have commas"),
-];
-
-#[test]
-fn characters_and_signs() {
-    for (text, told) in CHARACTERS.iter().chain(SIGNS) {
-        assert!(unread(text).starts_with(told), "{text}: {}", unread(text));
-    }
-    // Whatever character has no meaning, something is told that can be written for it.
-    let has_meaning = |c: char| c.is_ascii_alphanumeric() || "_+-*^()=;:,'".contains(c);
-    for c in ('\0'..='\u{2ffff}').filter(|&c| !has_meaning(c)) {
-        if let Err(unread) = sheet_of(&format!("x(n) = 0 {c} 1"), false) {
-            let remedy = unread.reason.split_once(": ").or(unread.reason.split_once("; ")).map(|(_, remedy)| remedy);
-            assert!(remedy.is_some_and(|remedy| remedy.len() > 5), "{c:?}: {}", unread.reason);
-        }
-    }
-}
-
-/// The unknowns that are given are those of the text, in their order.
-#[test]
-fn names_that_are_given() {
-    let given = |text: &str, names: &str| {
-        let names: Vec<String> = names.split(' ').map(String::from).collect();
-        read_named(text, false, &names).map(|typed| String::from_utf8(typed.sheet).unwrap())
-    };
-    let text = "n*x(n+1) - y(n) = 0";
-    assert_eq!(given(text, "x y").unwrap(), typed(text));
-    assert_eq!(given(text, "y x").unwrap(), typed(&format!("unknowns y, x\n{text}")));
-    assert_eq!(
-        given(&format!("unknowns y, x; order x\n{text}"), "y x"),
-        Ok("3 2 1 0\n1\n2 1 2 2 0 1 0 1 1 -1\n0\n1 2\n".into())
-    );
-    assert_eq!(given("sin(n) = xn(n)", "sin xn").unwrap(), typed("unknowns sin, xn\nsin(n) = xn(n)"));
-    for (text, names, told) in [
-        (text, "x", "line 1, column 12: `y` is none of the unknowns that are named (x)"),
-        (
-            "unknowns x, y\nx(n) = 0",
-            "y x",
-            "line 1, column 1: the first line has the unknowns x, y, and y, x are asked for",
-        ),
-        ("unknowns x\nx(n) = 0", "x y", "line 1, column 1: the first line has the unknowns x, and x, y are asked for"),
-        ("x' = x", "x", "line 1, column 1: `x` has a meaning of its own"),
-        ("", "x x", "line 1, column 1: `x` stands here twice"),
-    ] {
-        assert!(given(text, names).unwrap_err().to_string().starts_with(told), "{text}");
-    }
-    assert!(read(text, false).unwrap().is_introduced);
-    assert!(!read(&format!("unknowns x, y\n{text}"), false).unwrap().is_introduced);
-    assert!(!read_named(text, false, &["x".into(), "y".into()]).unwrap().is_introduced);
-}
-
 /// A name that a misprint could have made is told, once, unless the first line has it.
 #[test]
 fn doubts() {
@@ -295,7 +162,7 @@ fn doubts() {
         ),
         ("x(n+1) + 0 y(n) = 0; x(n) = 0", &["line 1, column 12: `y` cancels wherever it stands"]),
     ] {
-        assert_eq!(read(text, false).unwrap().doubts, expected, "{text}");
+        assert_eq!(front::typing::read(text, false).unwrap().doubts, expected, "{text}");
     }
 }
 
@@ -308,7 +175,7 @@ fn overflow_is_checked() {
 
 /// A sheet is made, which the proved reader takes, or the text is refused with a place. Whether it is made.
 fn ends(text: &str, is_differential: bool) -> bool {
-    match read(text, is_differential) {
+    match front::typing::read(text, is_differential) {
         Ok(typed) if typed.is_differential => assert!(System::from_differential(&typed.sheet).is_ok(), "{text}"),
         Ok(typed) => assert!(System::from_sheet(&typed.sheet).is_ok(), "{text}"),
         Err(unread) => {

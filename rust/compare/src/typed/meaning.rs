@@ -118,11 +118,7 @@ impl Names<'_> {
             return Ok(at + 1);
         }
         let is_number = self.text.is_differential && matches!(name, "e" | "pi") && !self.text.marked.contains(name);
-        // A function, also with digits and the variable behind it, or the variable alone.
-        let called = name.strip_suffix(self.variable()).map(|call| call.trim_end_matches(|c: char| c.is_ascii_digit()));
-        let is_function = FUNCTIONS
-            .split(' ')
-            .any(|function| [Some(name), called].into_iter().flatten().any(|it| function.eq_ignore_ascii_case(it)));
+        let is_function = FUNCTIONS.split(' ').any(|function| function.eq_ignore_ascii_case(name));
         let is_closed = self.text.heading.is_some() || self.unknowns.len() == 4;
         if is_closed || self.is_never(name) || is_number || is_function || self.is_product(name) {
             return Err(Broken("a name"));

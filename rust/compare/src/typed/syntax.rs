@@ -113,7 +113,7 @@ fn is_marked(behind: &[char]) -> bool {
 }
 
 pub fn read(text: &str, is_differential: bool) -> Result<Text, Broken> {
-    if text.len() > 262_144 {
+    if text.len() > 1_048_576 {
         return Err(Broken("length"));
     }
     let letters = plain(text);

@@ -6,12 +6,12 @@ use crate::random::Random;
 #[rustfmt::skip]
 const NAMES: &[&str] = &[
     "x", "y", "z", "w", "u", "v", "a", "b", "F", "M", "x1", "x2", "y1", "y2", "xi", "nu", "xy", "ab", "flux",
-    "pop", "e", "Y", "lnx", "tann",
+    "pop", "e", "Y",
 ];
 /// What a person may write and mean something else by.
 #[rustfmt::skip]
 const MISSES: &[&str] = &[
-    "y(0)", "y'(0)", "y''(x)", "y(x)", "y (x)", "y(x+1)", "(y)(x)", "sin(x)", "exp(x)", "sinx", "Cos2x", "lnn", "exp2n(n)", "e^x", "e", "pi",
+    "y(0)", "y'(0)", "y''(x)", "y(x)", "y (x)", "y(x+1)", "(y)(x)", "sin(x)", "exp(x)", "e^x", "e", "pi",
     "Cos(n)", "1e-3", "2e3", "2E5", "3e", "0x1", "0xy", "0.25", "1/4", "1 000", "1_000", "1,000", "xy", "nx(n)",
     "x2", "n2", "xx", "n(3)", "x(0)", "n (n)", "x(1)", "x(n+65)", "x(n-64)", "x(n+5)", "x(2n)", "x((n))",
     "x(n+1-1)", "x(y)", "x(n)^2", "x(n)(n+1)", "(n+1)(n-1)", "(x+1)(x-1)", "2^64", "(-2)^63", "2^100", "2^36",

@@ -2,11 +2,9 @@
 
 use super::fractions::Fraction;
 use super::model::Kind;
-use crate::command::{Arguments, End, FileName};
+use crate::command::{Arguments, End};
 use crate::output::shown;
 use crate::run::names_for;
-use std::os::unix::ffi::OsStrExt;
-use std::path::Path;
 use std::time::Duration;
 
 /// The most terms.
@@ -27,7 +25,7 @@ pub struct Asked {
     pub starts: Vec<String>,
     pub is_free: bool,
     /// Where a picture goes, over which interval, and of which unknown.
-    pub plot: Option<FileName>,
+    pub plot: Option<String>,
     pub over: (Fraction, Fraction),
     pub of: Option<String>,
     pub limit: Option<Duration>,
@@ -75,10 +73,9 @@ fn interval(text: Option<String>) -> Result<(Fraction, Fraction), End> {
 }
 
 /// The file of a picture.
-fn plot(arguments: &mut Arguments) -> Result<Option<FileName>, End> {
-    let Some(file) = arguments.file("--plot")? else { return Ok(None) };
-    let path: &Path = file.as_ref();
-    if !path.as_os_str().as_bytes().to_ascii_lowercase().ends_with(b".svg") {
+fn plot(arguments: &mut Arguments) -> Result<Option<String>, End> {
+    let Some(file) = arguments.value("--plot")? else { return Ok(None) };
+    if !file.to_ascii_lowercase().ends_with(".svg") {
         return misused(format!("--plot writes SVG, and `{}` does not end in .svg", shown(&file)));
     }
     Ok(Some(file))
@@ -117,7 +114,7 @@ pub fn column(name: &str, names: &[String]) -> Result<usize, End> {
     };
     match names.iter().position(|known| known == name) {
         Some(at) => Ok(at + 1),
-        None => misused(format!("there is no unknown `{}`: {known}, and --names gives others", shown(name))),
+        None => misused(format!("there is no unknown `{}`: {known}", shown(name))),
     }
 }
 

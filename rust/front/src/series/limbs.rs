@@ -349,7 +349,7 @@ fn digits_by(a: &[u64], powers: &[Vec<u64>], least: usize) -> String {
     if compared(a, power) == Ordering::Less {
         return digits_by(a, smaller, least);
     }
-    let behind = (DECIMAL.1 * FEW) << smaller.len();
+    let behind = DECIMAL.1 * FEW << smaller.len();
     let (high, low) = divided(a, power);
     digits_by(&high, smaller, least.saturating_sub(behind)) + &digits_by(&low, smaller, behind)
 }

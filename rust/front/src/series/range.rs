@@ -176,8 +176,8 @@ impl Range {
         if model.relations(places.kind).any(|(n0, _, row)| is_unheld(n0, &row)) {
             return Err(Stop::Contradiction);
         }
-        let (below, kept) = self.held_below(model, clock)?;
-        let above = self.held_above(model, high, clock)?;
+        let (below, kept) = self.from_below(model, clock)?;
+        let above = self.from_above(model, high, clock)?;
         for row in below.into_rows() {
             self.solver.hold(row, clock)?;
         }
@@ -195,7 +195,7 @@ impl Range {
     }
 
     /// The conditions on the range from what is said below it, worked upwards, and the first index that they speak of.
-    fn held_below(&mut self, model: &Model, clock: &Clock) -> Result<(Conditions, i64), Stop> {
+    fn from_below(&mut self, model: &Model, clock: &Clock) -> Result<(Conditions, i64), Stop> {
         let (places, sizes, (first, last)) = (self.places, self.places.sizes, self.places.shown);
         let (mut below, mut kept) = (Conditions::default(), places.window.0);
         // Of the last D vectors the equations above the range speak too.
@@ -209,7 +209,7 @@ impl Range {
     }
 
     /// The conditions on the range from what is said above it, worked downwards from index `high`.
-    fn held_above(&mut self, model: &Model, high: i64, clock: &Clock) -> Result<Conditions, Stop> {
+    fn from_above(&mut self, model: &Model, high: i64, clock: &Clock) -> Result<Conditions, Stop> {
         let (places, l, last) = (self.places, self.places.sizes.l, self.places.shown.1);
         let (ns, mut above, mut kept) = (places.ns(high), Conditions::default(), high);
         for n in ns.rev().take_while(|n| n + l > last) {
@@ -315,9 +315,9 @@ fn contradiction(places: Places, model: &Model, high: i64, clock: &Clock) -> Res
     let mut forgotten = low;
     for (n, named, equation) in below.chain(inside).chain(above) {
         clock.tell(|| format!("n = {n} of {before} to {behind}"));
-        while forgotten < (n + t).min(high) {
-            places.forget(&mut solver, forgotten);
-            forgotten += 1;
+        for index in forgotten..(n + t).min(high) {
+            places.forget(&mut solver, index);
+            forgotten = index + 1;
         }
         if !solver.add(places.row(&equation, n), clock)? {
             let told = format!("no such sequence: {named} cannot hold at n = {n} beside what stands before it");
