@@ -41,7 +41,8 @@ use Rattle.rules.specs.SheetCalls.{ReadCall, read_call, after_read, filled, unre
 use Rattle.rules.specs.SheetCalls.{unwritten}
 use Rattle.rules.specs.SheetCalls.{check_write_of, write_call}
 use Rattle.rules.specs.Batch.{most_bytes, Answer, accepted, refused_with, sized, answer_run, answer_read, answer_sheet}
-use Rattle.theory.specs.Demands.{Accepted, Ended, run_ends, seven, eight, nine, ten, output-valid, diagonal-nonzero}
+use Rattle.theory.specs.Demands.{Accepted, Ended, seven, eight, nine, ten}
+use Rattle.theory.proofs.Demands.{run_ends, output-valid, diagonal-nonzero}
 use Rattle.theory.specs.Demands as Demands
 use Rattle.theory.specs.Settled.{Diagonal}
 use Rattle.sheets.specs.WrittenOrder.{OrderRight, different-cons}

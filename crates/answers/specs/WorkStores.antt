@@ -32,8 +32,9 @@ use Rattle.lists.specs.Overwritten.{overwrite, overwrite-paste, drop-overwrite}
 use Rattle.rules.specs.Numbers.{Read, got, fault}
 use Rattle.rules.specs.Sheets.{Sheet, read_sheet_of}
 use Rattle.rules.specs.SheetCalls.{ReadCall, read_call, after_read, filled, unread, read_refusal}
-use Rattle.theory.specs.Demands.{Accepted, Ended, run_ends, seven, eight, nine, ten, diagonal-nonzero, rank-few, output-valid}
-use Rattle.theory.specs.Demands.{relations-listed}
+use Rattle.theory.specs.Demands.{Accepted, Ended, seven, eight, nine, ten}
+use Rattle.theory.proofs.Demands.{run_ends, diagonal-nonzero, rank-few, output-valid}
+use Rattle.theory.proofs.Demands.{relations-listed}
 use Rattle.theory.specs.Demands as Demands
 use Rattle.runs.specs.Unreported.{UnreportedCall, unreported_call}
 use Rattle.reading.specs.Zeros.{length-zeros, take-zeros, drop-zeros, zero-again}

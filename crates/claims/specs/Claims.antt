@@ -83,7 +83,7 @@ use Rattle.rules.specs.Sheets.{Sheet, read_sheet_of, write_sheet_of}
 use Rattle.rules.specs.SheetCalls.{ReadCall, WriteCall, unread, unwritten}
 use Rattle.rules.specs.Batch.{batch_output}
 use Rattle.rules.specs.Tallies.{output_in_all}
-use Rattle.theory.specs.Demands.{same-sequences}
+use Rattle.theory.proofs.Demands.{same-sequences}
 use Rattle.theory.specs.ListedOrder.{Listed}
 use Rattle.answers.specs.Answers.{AnswerCall, unanswered, sheet_after_of}
 use Rattle.frames.specs.Pieces.{text_room}
@@ -271,7 +271,7 @@ module _ {side : Side} {z : Sizes} {count : ℕ} {rows relations : List ℤ} {c 
 
     -- It is below that number exactly if a nonzero combination of shifted lent equations vanishes: so it is where a row was dropped
     -- (SCOPE 2.119, 2.122), and a run that is refused later has dropped one only there too, by `dropped-dependent` of
-    -- crates/theory/specs/Demands.antt.
+    -- crates/theory/proofs/Demands.antt.
     pub rank_below : (c.result.rank < equations z) ↔ Dependent z.l (rows_of (equations z) rows)
     rank_below = Runs.below-dependent ran accepted
 
@@ -328,7 +328,7 @@ module _ {z : Sizes} {count : ℕ} {rows relations : List ℤ} {c : Call} (ran :
 -- ---- demand 2, of the rules themselves
 --
 -- The rules are `step` and `run` of crates/rules/specs/Elimination.antt. A step has no memory of j: that it is the loop
--- over j is `next-row-later` and `zero-row-dropped` of crates/theory/specs/Demands.antt (SCOPE 2.26). The order among
+-- over j is `next-row-later` and `zero-row-dropped` of crates/theory/proofs/Demands.antt (SCOPE 2.26). The order among
 -- the roots of one g is ours (SCOPE 2.33).
 
 -- The roots that are listed for g are its integer roots (SCOPE 2.31),
@@ -559,7 +559,7 @@ module _ {bytes store : List ℕ} {a : AnswerCall} (was-answered : SheetWasAnswe
   answer-output = Answers.answer-accepted was-answered
 
   -- The sheet that answers has the solutions of the sheet that was asked (SCOPE 2.114). The other sentences of demand 3
-  -- hold of it too: they take `accepted` of AnswerHolds, in crates/theory/specs/Demands.antt.
+  -- hold of it too: they take `accepted` of AnswerHolds, in crates/theory/proofs/Demands.antt.
   pub answer-solutions : {x : Sheet} {s : State} → AnswerHolds bytes store a x s → (y : Sequence)
       → Satisfies x.sizes.l x.rows x.relations y ↔ Satisfies x.sizes.l s.rows s.relations y
   answer-solutions h = same-sequences h.accepted

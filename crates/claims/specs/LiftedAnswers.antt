@@ -16,7 +16,8 @@ use Rattle.rules.specs.Numbers.{Read, got, fault}
 use Rattle.rules.specs.Sheets.{Sheet, read_sheet_of, write_sheet_of}
 use Rattle.rules.specs.Batch.{most_bytes, sized, answer_run, answer_read, answer_sheet}
 use Rattle.rules.specs.Batch as Batch
-use Rattle.theory.specs.Demands.{Ended, seven, eight, nine, ten, run_ends, output-valid, diagonal-nonzero}
+use Rattle.theory.specs.Demands.{Ended, seven, eight, nine, ten}
+use Rattle.theory.proofs.Demands.{run_ends, output-valid, diagonal-nonzero}
 use Rattle.theory.specs.Demands as Demands
 use Rattle.sheets.specs.ReadBack.{SheetRight, read_right}
 use Rattle.answers.specs.Answers.{AnswerCall, answer_call, answered, unanswered, sheet_after_of, order-after}

@@ -60,11 +60,12 @@ use Rattle.rules.specs.Calls.{zeros}
 use Rattle.lists.specs.Overwritten.{overwrite}
 use Rattle.rules.specs.Calls.{place_right_of, reported_order, root_found, root_value}
 use Rattle.theory.specs.Settled.{Diagonal, pivot_entry, diagonal-most, nonzero-of-diagonal}
-use Rattle.theory.specs.Demands.{Accepted, Ended, seven, eight, nine, ten, run_ends, output-valid, diagonal-nonzero}
-use Rattle.theory.specs.Demands.{report-times, report-no-times, relations-listed}
+use Rattle.theory.specs.Demands.{Accepted, Ended, seven, eight, nine, ten}
+use Rattle.theory.proofs.Demands.{run_ends, output-valid, diagonal-nonzero}
+use Rattle.theory.proofs.Demands.{report-times, report-no-times, relations-listed}
 use Rattle.theory.specs.ListedOrder.{Listed}
-use Rattle.theory.specs.Demands.{same-sequences, rank_most, rank-few, rank_below, rows-independent, shifts-bounded, refused-inconsistent}
-use Rattle.theory.specs.Demands.{agreement-leading, agreement-trailing, first-index, forward-from, backward-from}
+use Rattle.theory.proofs.Demands.{same-sequences, rank_most, rank-few, rank_below, rows-independent, shifts-bounded, refused-inconsistent}
+use Rattle.theory.proofs.Demands.{agreement-leading, agreement-trailing, first-index, forward-from, backward-from}
 use Rattle.theory.specs.FirstIndex.{SatisfiesFrom}
 use Rattle.theory.specs.Report.{Past, Rootless, FurthestRoot, diagonal_entry, diagonal-member, diagonal-index, product}
 use Rattle.theory.specs.Report.{NonzeroDiagonal, report-none, report-some}

@@ -30,7 +30,8 @@ use Rattle.rules.specs.Stores.{Sizes, equations, rows_of, relations_of, row_need
 use Rattle.rules.specs.Stores.{StoreRow, Shaped, Valid, span, lengths_right_of, numbers_right_of}
 use Rattle.rules.specs.Layout.{size-bounds, stores-valid, length-rows_of, lengths_right-iff, NumbersRight}
 use Rattle.rules.specs.Calls.{Result, Call, call_run, zeros, refusal, acceptance}
-use Rattle.theory.specs.Steps.{Refusal, step-refused}
+use Rattle.theory.specs.Steps.{Refusal}
+use Rattle.theory.proofs.Steps.{step-refused}
 use Rattle.steps.specs.Budgets.{Walk, Walked, used-up, at-end, stopped, walked, row-of}
 use Rattle.steps.specs.HeldCalls.{Held, state_numbers_of, no_state_of, prepared, after_checks, prepare_call, check_state_of}
 use Rattle.steps.specs.HeldCalls.{StepsResult, StepsCall, steps_call, state_in_of, the_columns_of, sizes_held_of, pivots_right_of, moved_to}

@@ -26,8 +26,9 @@ use Rattle.rules.specs.Stores.{Sizes, Valid, span, rows_of, relations_of, sizes_
 use Rattle.rules.specs.Stores.{equations, with_equations_of}
 use Rattle.rules.specs.Layout.{SizeBounds, size-bounds, check_stores-order, stores-valid, count_right-iff, block-place}
 use Rattle.lists.specs.Padded.{length-pad_to, all-pad_to}
-use Rattle.theory.specs.Demands.{Accepted, Ended, accepted, seven, eight, nine, ten, run_ends, shifts-bounded, output-valid}
-use Rattle.theory.specs.Demands.{diagonal-nonzero}
+use Rattle.theory.specs.Demands.{Accepted, Ended, accepted, seven, eight, nine, ten}
+use Rattle.theory.proofs.Demands.{run_ends, shifts-bounded, output-valid}
+use Rattle.theory.proofs.Demands.{diagonal-nonzero}
 use Rattle.theory.specs.Settled.{Diagonal, diagonal-most}
 use Rattle.rules.specs.Calls.{reported_order}
 use Rattle.rules.specs.Calls.{Result, Call, call_run, zeros, refusal, unchanged, cleared, acceptance, after_run_of, after_check}

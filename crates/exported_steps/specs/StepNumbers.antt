@@ -29,7 +29,8 @@ use Rattle.rules.specs.Elimination.{Side, State, leading, refused, step, report}
 use Rattle.rules.specs.Stores.{Sizes, equations, span, rows_of, row_need, lengths_right_of, numbers_right_of}
 use Rattle.rules.specs.Layout.{size-bounds}
 use Rattle.rules.specs.Calls.{zeros, refusal, acceptance}
-use Rattle.theory.specs.Steps.{current, Refusal, step-refused}
+use Rattle.theory.specs.Steps.{current, Refusal}
+use Rattle.theory.proofs.Steps.{step-refused}
 use Rattle.steps.specs.Budgets.{Walk, steps, Walked, used-up, at-end, stopped, walked, row-of}
 use Rattle.steps.specs.HeldCalls.{Held, the_columns_of, state_in_of, state_numbers_of, sizes_held_of, pivots_right_of, check_state_of, StepsResult, StepsCall}
 use Rattle.steps.specs.HeldCalls.{moved_to, stopped_by_of, after_steps, unmoved, after_state_check, steps_call}

@@ -33,7 +33,7 @@ use Rattle.theory.specs.LimitsKept.{ValidRows, valid-rows, counted-valid}
 use Rattle.theory.specs.Agreement.{settled-column, every-column, triangular-rows, leading-agreement}
 use Rattle.theory.specs.Settled.{Diagonal, nonzero-of-diagonal, diagonal-most}
 use Rattle.theory.specs.Report.{Past, Rootless, FurthestRoot, report-none, report-some}
-use Rattle.theory.specs.Dependence.{settled-independent}
+use Rattle.theory.proofs.Dependence.{settled-independent}
 use Rattle.theory.specs.ListedOrder.{Listed}
 use Rattle.theory.specs.Mirror.{span-sum}
 use Rattle.log_steps.specs.Logs.{step_length, replayed, order_holds_of, the_columns_of, with_order, ordered, replay}

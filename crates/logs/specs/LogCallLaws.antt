@@ -32,7 +32,8 @@ use Rattle.rules.specs.Elimination.{leading_run_of}
 use Rattle.rules.specs.Elimination.{enough}
 use Rattle.theory.specs.ShiftDown.{shift_down}
 use Rattle.theory.specs.Steps.{going≢refused, done≢refused, refused-injective, limit_degrees-beyond, limit_coefficients-beyond}
-use Rattle.theory.specs.Steps.{Refusal, run-refused, step-refused}
+use Rattle.theory.specs.Steps.{Refusal}
+use Rattle.theory.proofs.Steps.{run-refused, step-refused}
 use Rattle.theory.specs.Demands.{Accepted}
 use Rattle.log_steps.specs.Logs.{Change, exchanging, combining, raising, lowering, dropping, step_length, most_steps, steps_in, numbers_in}
 use Rattle.log_steps.specs.Logs.{change_of, divided_row_of, allowed, applied, combine_rows_of, lower_row_of, changed, changed_if, replayed}

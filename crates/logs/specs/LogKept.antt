@@ -29,7 +29,8 @@ use Rattle.rules.specs.Elimination.{limit_degrees, limit_coefficients, within}
 use Rattle.theory.specs.Cells.{ZeroWhere}
 use Rattle.theory.specs.Shapes.{map_row-shaped}
 use Rattle.theory.specs.Reduce.{value-cut, divided-zero, cut-zero, cut-shaped}
-use Rattle.theory.specs.Combine.{Combines, shaped-same, combine-values, combine-satisfied, combine-shaped, combine-unused}
+use Rattle.theory.specs.Combine.{Combines, shaped-same, combine-shaped, combine-unused}
+use Rattle.theory.proofs.Combine.{combine-values, combine-satisfied}
 use Rattle.theory.specs.Exchange.{exchange-satisfied}
 use Rattle.theory.specs.ShiftUp.{shift_up-satisfied, shift_up-shaped, shift_up-unused}
 use Rattle.theory.specs.ShiftDown.{last_block, shift_down, shift_down-satisfied, shift_down-shaped, shift_down-unused, lost-zero}

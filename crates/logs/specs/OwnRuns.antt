@@ -39,11 +39,13 @@ use Rattle.rules.specs.Calls.{reported_order}
 use Rattle.rules.specs.Elimination.{State, start, Outcome, going, done, refused, and_then, leading, step, run, finished, enough}
 use Rattle.rules.specs.Elimination.{leading_run_of}
 use Rattle.rules.specs.Elimination.{whole_run_of}
-use Rattle.theory.specs.Steps.{current, StepView, over-limit, inconsistent, goes_on, step-view, Left, none_left, row-left, left}
+use Rattle.theory.specs.Steps.{current, StepView, over-limit, inconsistent, goes_on, Left, none_left, row-left, left}
+use Rattle.theory.proofs.Steps.{step-view}
 use Rattle.theory.specs.Steps.{going≢done, done-injective, done≢refused}
 use Rattle.theory.specs.Triangular.{Triangular, triangular-start, triangular-stepped}
 use Rattle.theory.specs.LimitsKept.{ValidRows, valid-rows, stepped-valid}
-use Rattle.theory.specs.Settled.{settled-leading, settled-triangular, settled-count, settled-diagonal, Diagonal, diagonal-most}
+use Rattle.theory.specs.Settled.{Diagonal, diagonal-most}
+use Rattle.theory.proofs.Settled.{settled-leading, settled-triangular, settled-count, settled-diagonal}
 use Rattle.theory.specs.Demands.{Accepted}
 use Rattle.log_steps.specs.Logs.{Change, place_of, order_holds_of, the_columns_of, with_order, ordered, replay, most_steps, step_length}
 use Rattle.steps.specs.HeldCalls.{pivots_right_of}

@@ -39,7 +39,7 @@ use Rattle.theory.specs.Steps.{combination, FirstNonzero, first_nonzero-some, fi
 use Rattle.theory.specs.Triangular.{Triangular, multipliers_for-nonzero}
 use Rattle.theory.specs.Multipliers.{multipliers-small}
 use Rattle.theory.specs.LimitsKept.{ValidRows, row_right-iff, entry-small, multipliers_for-lengths}
-use Rattle.theory.specs.Solutions.{shifted-zeros}
+use Rattle.theory.proofs.Solutions.{shifted-zeros}
 use Rattle.log_steps.specs.Logs.{Change, exchanging, raising, dropping, divides_all, two_rows_of, divided_row_of, allowed, applied, combine_rows_of}
 use Rattle.log_steps.specs.Logs.{changed, with_order}
 use Rattle.log_steps.specs.Changes.{Formed, exchange-formed, combination-formed, raise-formed, drop-formed}

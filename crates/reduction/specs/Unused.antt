@@ -26,7 +26,8 @@ use Rattle.rules.specs.Layout.{length-rows_of}
 use Rattle.theory.specs.Cells.{width-unused}
 use Rattle.theory.specs.Combine.{combine-unused}
 use Rattle.theory.specs.ShiftUp.{shift_up-unused}
-use Rattle.theory.specs.Steps.{Stepped, combined, settled, shifted, dropped, StepView, over-limit, inconsistent, goes_on, step-view}
+use Rattle.theory.specs.Steps.{Stepped, combined, settled, shifted, dropped, StepView, over-limit, inconsistent, goes_on}
+use Rattle.theory.proofs.Steps.{step-view}
 use Rattle.theory.specs.Steps.{current, exchanged, multipliers_for, limit_coefficients-within}
 use Rattle.theory.specs.Steps.{length-narrow_first, narrow_first-all, going≢refused, going-injective}
 use Rattle.theory.specs.Triangular.{combined-zero}

@@ -40,8 +40,8 @@ use Rattle.lists.specs.Padded.{pad_to, pad_to-more}
 use Rattle.rules.specs.Calls.{cleared, unchanged, after_run_of, after_check, call_run}
 use Rattle.multiplicities.specs.declared.RootWith.{RootWith}
 use Rattle.theory.specs.Settled.{Diagonal, nonzero-of-diagonal}
-use Rattle.theory.specs.Ending.{whole_run-ends}
-use Rattle.theory.specs.Demands.{diagonal-nonzero}
+use Rattle.theory.proofs.Ending.{whole_run-ends}
+use Rattle.theory.proofs.Demands.{diagonal-nonzero}
 use Rattle.working_rows.specs.Found.{Columns}
 use Rattle.sides.specs.Lent.{Within, Listing}
 use Rattle.reduction.specs.Progress.{state_of, outcome_of, outcome_at, Ready}

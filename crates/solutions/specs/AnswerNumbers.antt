@@ -14,10 +14,10 @@ use Rattle.std.proofs.Math.Dec.{T}
 use Rattle.rules.specs.Rows.{Row, Relation}
 use Rattle.rules.specs.Elimination.{trailing, Outcome, going, done, refused, rank, whole_run_of, trailing_run_of, run, enough, mirror_state, start}
 use Rattle.rules.specs.Stores.{Sizes, span, Valid}
-use Rattle.theory.specs.Steps.{run-refused, step-refused}
-use Rattle.theory.specs.Ending.{mirror_outcome-refused}
+use Rattle.theory.proofs.Steps.{run-refused, step-refused}
+use Rattle.theory.proofs.Ending.{mirror_outcome-refused}
 use Rattle.theory.specs.LimitsKept.{valid-rows}
-use Rattle.theory.specs.Trailing.{trailing-inconsistent}
+use Rattle.theory.proofs.Trailing.{trailing-inconsistent}
 use Rattle.constant_rows.specs.Constants.{Judged, fine, passed, and_on, constant_rows_of, the_columns_of}
 use Rattle.constant_rows.specs.ListLengths.{largest_index}
 use Rattle.constant_rows.specs.RowLimits.{Limit, Limits, and_on-limits, each-limits, rows-limits}

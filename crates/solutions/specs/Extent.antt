@@ -33,14 +33,16 @@ use Rattle.rules.specs.Stores.{Sizes, span}
 use Rattle.rules.specs.Sequences.{Sequence, Satisfies, SatisfiesEquation, SatisfiesRelation, left_value, value_of}
 use Rattle.theory.specs.Values.{value-difference, left-nothing}
 use Rattle.theory.specs.BackSubstitution.{TriangularRows, NonzeroAt, back-substitution}
-use Rattle.theory.specs.Settled.{MirroredRun, settled-trailing, settled-rows, settled-valid, nonzero-of-diagonal}
+use Rattle.theory.specs.Settled.{MirroredRun, nonzero-of-diagonal}
+use Rattle.theory.proofs.Settled.{settled-trailing, settled-rows, settled-valid}
 use Rattle.theory.specs.LimitsKept.{ValidRows, valid-rows}
 use Rattle.theory.specs.Mirror.{Reaches, Spans, reflect, mirror_sizes, span-sum, mirror-span, mirror-valid, mirror-satisfies}
 use Rattle.theory.specs.Mirror.{mirror-diagonal}
 use Rattle.theory.specs.Mirror.{valid-rows-span, valid-relations-span}
-use Rattle.theory.specs.Solutions.{run-solutions}
+use Rattle.theory.proofs.Solutions.{run-solutions}
 use Rattle.theory.specs.Report.{NonzeroDiagonal, diagonal_entry, diagonal-member, furthest-none, furthest-some}
-use Rattle.theory.specs.Demands.{Accepted, diagonal-nonzero}
+use Rattle.theory.specs.Demands.{Accepted}
+use Rattle.theory.proofs.Demands.{diagonal-nonzero}
 use Rattle.solutions.specs.SolutionAnswers.{homogeneous, last_root_of}
 
 abbrev pub nothing : Sequence

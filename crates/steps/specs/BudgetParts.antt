@@ -30,8 +30,8 @@ use Rattle.rules.specs.Stores.{Sizes, equations, with_equations_of, span, rows_o
 use Rattle.rules.specs.Stores.{relation_store_of, check_stores_of, Valid, StoreRow}
 use Rattle.rules.specs.Layout.{stores-valid, length-row_store_of, length-row_store_for, length-relation_store_of, count_right-iff}
 use Rattle.rules.specs.Calls.{Result, Call, refusal, acceptance, zeros, after_run_of, after_check, call_run, cleared}
-use Rattle.theory.specs.Steps.{chain_length}
-use Rattle.theory.specs.Ending.{leading_run-ends}
+use Rattle.theory.proofs.Steps.{chain_length}
+use Rattle.theory.proofs.Ending.{leading_run-ends}
 use Rattle.steps.specs.Budgets.{Walk, steps, Led, Walked, used-up, at-end, stopped, walked, led-chain, led-further, row-of, continued}
 use Rattle.steps.specs.Budgets.{refusal-number}
 use Rattle.steps.specs.Budgets.{later, steps-add, whole_run, whole-more}

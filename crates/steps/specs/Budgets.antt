@@ -28,9 +28,11 @@ use Rattle.rules.specs.Stores.{StoreRow}
 use Rattle.rules.specs.Elimination.{Side, leading, State, start, Outcome, going, done, refused, finished, step, and_then, run, enough}
 use Rattle.rules.specs.Elimination.{leading_run_of}
 use Rattle.theory.specs.Steps.{current, Stepped, Chain, here, next, Left, none_left, row-left, left, StepView, over-limit, inconsistent}
-use Rattle.theory.specs.Steps.{goes_on, step-view, going-injective, going≢done, going≢refused, done≢refused, chain-before}
-use Rattle.theory.specs.Steps.{Refusal, step-refused}
-use Rattle.theory.specs.Ending.{leading_run-ends}
+use Rattle.theory.specs.Steps.{goes_on, going-injective, going≢done, going≢refused, done≢refused, chain-before}
+use Rattle.theory.proofs.Steps.{step-view}
+use Rattle.theory.specs.Steps.{Refusal}
+use Rattle.theory.proofs.Steps.{step-refused}
+use Rattle.theory.proofs.Ending.{leading_run-ends}
 
 -- ---- at most k steps
 

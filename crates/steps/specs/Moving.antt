@@ -24,7 +24,7 @@ use Rattle.rules.specs.Stores.{rows_of, row_need, relation_need, Shaped, StoreRo
 use Rattle.rules.specs.Elimination.{Side, leading, State, Outcome, going, done, refused, finished, step}
 use Rattle.rules.specs.Layout.{length-rows_of, StoreRow-rows_of}
 use Rattle.theory.specs.Cells.{total_of, total_of-bound, shifts_of, width-le-length}
-use Rattle.theory.specs.Ending.{chain-shifts}
+use Rattle.theory.proofs.Ending.{chain-shifts}
 use Rattle.sides.specs.StoreStates.{kept_same, kept_then}
 use Rattle.reduction.specs.Progress.{Ready, Reached, state_of, outcome_of, outcome_at, answer_of, most_steps, start_progress}
 use Rattle.reduction.specs.Dropping.{freed-none, freed-then, kept_more}

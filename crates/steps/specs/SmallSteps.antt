@@ -21,7 +21,7 @@ use Rattle.rules.specs.Stores.{Sizes, equations, with_equations_of, span, rows_o
 use Rattle.rules.specs.Layout.{size-bounds, count_right-iff, length-rows_of}
 use Rattle.rules.specs.Calls.{Result, refusal, reported_order, acceptance}
 use Rattle.theory.specs.Cells.{total_of-bound, shifts_of, width-le-length}
-use Rattle.theory.specs.Ending.{chain-shifts}
+use Rattle.theory.proofs.Ending.{chain-shifts}
 use Rattle.reduction.specs.Progress.{most_steps}
 use Rattle.runs.specs.CallLaws as RunLaws
 use Rattle.steps.specs.Budgets.{Walk, steps, Led, Walked, used-up, at-end, stopped, walked, led-chain}

@@ -36,12 +36,13 @@ use Rattle.rules.specs.Stores.{Valid}
 use Rattle.rules.specs.Layout.{size-bounds, check_stores-zero, valid-stores, rows_of-row_store_for, relations_of-relation_store_of}
 use Rattle.rules.specs.Layout.{count_right-iff, StoresRight}
 use Rattle.rules.specs.Calls.{reported_order}
-use Rattle.theory.specs.Steps.{current, Chain, chain_length, chain-induction}
+use Rattle.theory.specs.Steps.{current, Chain, chain-induction}
+use Rattle.theory.proofs.Steps.{chain_length}
 use Rattle.theory.specs.Triangular.{Triangular, triangular-start, triangular-chain}
 use Rattle.theory.specs.Pivots.{PivotRow, PivotRows, ColumnsBelow, column-below, order-distinct}
 use Rattle.theory.specs.Cells.{entry-cell, unused-cells, width-unused}
 use Rattle.theory.specs.LimitsKept.{ValidRows, valid-rows, stepped-valid, counted-valid, row_right-iff}
-use Rattle.theory.specs.Ending.{shift-bound}
+use Rattle.theory.proofs.Ending.{shift-bound}
 use Rattle.steps.specs.HeldCalls.{Held, the_columns_of, state_in_of, held_state, prepared, sizes_held_of, pivot_right, pivots_right_of, check_state_of}
 
 -- ---- the checks as facts

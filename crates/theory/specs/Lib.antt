@@ -20,15 +20,11 @@ pub mod Steps
 pub mod Triangular
 pub mod LimitsKept
 pub mod Ending
-pub mod Solutions
 pub mod FirstIndex
-pub mod Inconsistency
 pub mod ListedOrder
-pub mod Dependence
 pub mod BackSubstitution
 pub mod Mirror
 pub mod Report
 pub mod Agreement
 pub mod Settled
-pub mod Trailing
 pub mod Demands

@@ -3,15 +3,13 @@
 -- Main definitions
 --   Diagonal side e m D s    e rows, triangular in the column order; with m rows it holds every column
 --   Settled side z rows relations u   a run from the valid system rows, relations leads to u, all of whose rows are settled
--- Main statements
---   settled-count, settled-few   all rows of u are settled, and they are no more than the equations
---   settled-leading        an accepted leading run leads to its final state
---   settled-trailing       an accepted trailing run leads to the mirror of its final state, from the mirrored system
---   settled-diagonal, mirrored-diagonal     the diagonal of u, and of its mirror
+--
+-- Main statements (the others are in proofs/Settled.antt)
+--   mirrored-diagonal      the diagonal of the mirror
 --   diagonal-most          no more rows than columns
-use Rattle.std.specs.Prelude.{ℕ, ◌≤◌, ◌<◌, ◌≡◌, refl, not, T, get_or}
+use Rattle.std.specs.Prelude.{ℕ, ◌≤◌, ◌<◌, ◌≡◌, not, T, get_or}
 use Rattle.std.proofs.Math.Path.{sym, subst}
-use Rattle.std.proofs.Common.{◌∙◌, ap, le_antisymm}
+use Rattle.std.proofs.Common.{◌∙◌, ap}
 use mathlib.Core.List.{List, [], map, Memᴰ}
 use Rattle.std.proofs.Math.ListN.{length, get_or-map}
 use Rattle.std.proofs.lemmas.List.{length-map}
@@ -20,18 +18,14 @@ use Rattle.algebra.specs.Polynomials.{Polynomial, is_zero_of, is_zero-mirror}
 use Rattle.rules.specs.Rows.{Row, Relation, no_row, entry, leading_block, map_row, mirror_row_of, mirror_relation}
 use Rattle.lists.specs.Everywhere.{All, all_get_or}
 use Rattle.lists.specs.Places.{member-place}
-use Rattle.rules.specs.Elimination.{Side, leading, trailing, State, start, done, run, enough, whole_run_of, leading_run_of, trailing_run_of}
-use Rattle.rules.specs.Elimination.{mirror_state, diagonal_place, row_at}
-use Rattle.rules.specs.Stores.{Sizes, span, Valid}
-use Rattle.theory.specs.Steps.{current, Chain, chain_length, run-done}
-use Rattle.theory.specs.Triangular.{Triangular, triangular-start, triangular-chain}
-use Rattle.theory.specs.Pivots.{order-distinct}
-use Rattle.theory.specs.LimitsKept.{ValidRows, valid-rows, valid-kept}
-use Rattle.theory.specs.Ending.{mirror_outcome-done}
-use Rattle.theory.specs.BackSubstitution.{TriangularRows}
-use Rattle.theory.specs.Agreement.{settled-column, every-column, triangular-rows}
+use Rattle.rules.specs.Elimination.{Side, leading, trailing, State, start}
+use Rattle.rules.specs.Elimination.{mirror_state, diagonal_place}
+use Rattle.rules.specs.Stores.{Sizes, span}
+use Rattle.theory.specs.Steps.{current, Chain}
+use Rattle.theory.specs.LimitsKept.{ValidRows}
+use Rattle.theory.specs.Agreement.{every-column}
 use Rattle.theory.specs.Report.{NonzeroDiagonal, nonzero-diagonal}
-use Rattle.theory.specs.Mirror.{mirror_sizes, Reaches, mirror-valid, mirror-last_entry}
+use Rattle.theory.specs.Mirror.{mirror_sizes, Reaches, mirror-last_entry}
 
 -- The polynomial of row j at column c of the block that is made triangular: block l, or block t.
 abbrev pub pivot_entry : Side → ℕ → State → ℕ → ℕ → Polynomial
@@ -55,36 +49,6 @@ pub record Settled (side : Side) (z : Sizes) (rows : List Row) (relations : List
   pub all : length u.rows ≤ current u
 
 -- ---- a settled state
-
-module _ {side : Side} {z : Sizes} {rows : List Row} {relations : List Relation} {u : State} (a : Settled side z rows relations u) where
-  pub settled-valid : ValidRows z u.rows u.relations
-  settled-valid = valid-kept a.valid a.chain
-
-  pub settled-triangular : Triangular u
-  settled-triangular = triangular-chain a.chain (triangular-start rows relations)
-
-  pub settled-count : current u ≡ length u.rows
-  settled-count = le_antisymm settled-triangular.fits a.all
-
-  pub settled-few : current u ≤ length rows
-  unfolding start
-  settled-few = subst (λ n. n ≤ length rows) (sym settled-count) (chain_length a.chain)
-
-  pub settled-rows : current u ≡ z.m → TriangularRows z.m (span z) u.rows u.order
-  settled-rows square = triangular-rows z u settled-valid settled-triangular settled-count (sym settled-count ∙ square)
-
-  pub settled-diagonal : Diagonal leading (current u) z.m (span z) u
-  unfolding diagonal_place row_at entry leading_block
-  settled-diagonal =
-      record {
-        row_count = sym settled-count;
-        order-count = refl;
-        zero-before = λ j k b h. (settled-triangular.pivots j h).zeros k b;
-        nonzero = λ j h. (settled-triangular.pivots j h).diagonal;
-        column-below = λ j h. settled-column z u settled-valid settled-triangular settled-count j (subst (λ n. j < n) settled-count h);
-        columns-different = order-distinct u.order u.rows settled-triangular.pivots;
-        every-column = λ square. every-column z u settled-valid settled-triangular settled-count (sym settled-count ∙ square);
-      }
 
 -- Each diagonal polynomial is nonzero.
 pub nonzero-of-diagonal : (side : Side) (e m D : ℕ) (s : State) → Diagonal side e m D s → NonzeroDiagonal side D s
@@ -130,27 +94,8 @@ mirrored-diagonal e m D u r d =
 
 -- ---- the whole runs
 
-pub settled-leading : {z : Sizes} {rows : List Row} {relations : List Relation} {s : State} → Valid z rows relations
-    → whole_run_of leading (span z) rows relations ≡ done s → Settled leading z rows relations s
-unfolding whole_run_of leading_run_of
-settled-leading {rows = rows} {relations} {s} v e =
-    let (k, chain, all) = run-done leading (enough rows) (start rows relations) s e in
-    record { valid = valid-rows v; steps = k; chain = chain; all = all }
-
 -- The run that a trailing run makes, on the mirrored system, and its final state.
 pub record MirroredRun (z : Sizes) (rows : List Row) (relations : List Relation) (s : State) : Type 0 where
   pub final : State
   pub settled : Settled trailing (mirror_sizes z) (map (mirror_row_of (span z)) rows) (map (mirror_relation (span z)) relations) final
   pub back : mirror_state (span z) final ≡ s
-
-pub settled-trailing : {z : Sizes} {rows : List Row} {relations : List Relation} {s : State} → Valid z rows relations
-    → whole_run_of trailing (span z) rows relations ≡ done s → MirroredRun z rows relations s
-unfolding whole_run_of trailing_run_of mirror_state start
-settled-trailing {z} {rows} {relations} {s} v e =
-    let (u, f, same) = mirror_outcome-done (span z) (run trailing (enough rows) (mirror_state (span z) (start rows relations))) s e in
-    let (k, chain, all) = run-done trailing (enough rows) (mirror_state (span z) (start rows relations)) u f in
-    record {
-      final = u;
-      settled = record { valid = mirror-valid z rows relations (valid-rows v); steps = k; chain = chain; all = all };
-      back = same;
-    }

@@ -20,14 +20,15 @@ use Rattle.rules.specs.Elimination.{settle, count_shift, exchange, narrow_first}
 use Rattle.rules.specs.Stores.{StoreRow}
 use Rattle.rules.specs.Sequences.{Dependent}
 use Rattle.theory.specs.Steps.{current, exchanged, multipliers_for, listed, combination, Stepped, combined, settled, shifted, dropped}
-use Rattle.theory.specs.Steps.{stepped-rows, stepped-length, chain_length, length-drop_row}
+use Rattle.theory.specs.Steps.{length-drop_row}
+use Rattle.theory.proofs.Steps.{stepped-rows, stepped-length, chain_length}
 use Rattle.theory.specs.Steps.{Chain, here, next, Narrowed, kept, swapped, narrowed, length-narrow_first, limit_coefficients-within}
 use Rattle.theory.specs.Triangular.{Triangular, triangular-chain, multipliers_for-nonzero}
 use Rattle.theory.specs.LimitsKept.{StateShaped, chain-shapes}
-use Rattle.theory.specs.Solutions.{combined-value, shifted-zeros}
+use Rattle.theory.proofs.Solutions.{combined-value, shifted-zeros}
 use Rattle.theory.specs.Independence.{triangular-independent}
 use Rattle.theory.specs.Exchange.{exchange-dependent}
-use Rattle.theory.specs.Combine.{combine-dependent}
+use Rattle.theory.proofs.Combine.{combine-dependent}
 use Rattle.theory.specs.ShiftUp.{shift_up-dependent}
 use Rattle.theory.specs.DropZero.{zero-row-dependent}
 

@@ -22,7 +22,8 @@ use Rattle.theory.specs.Steps.{multipliers_for, combination, listed, length-narr
 use Rattle.theory.specs.Steps.{limit_degrees-within, Narrowed, narrowed, kept, swapped}
 use Rattle.theory.specs.Cells.{zero_block-all}
 use Rattle.theory.specs.Exchange.{exchange-satisfied}
-use Rattle.theory.specs.Combine.{shaped-same, Combines, combined_row-values, combine-satisfied}
+use Rattle.theory.specs.Combine.{shaped-same, Combines}
+use Rattle.theory.proofs.Combine.{combined_row-values, combine-satisfied}
 use Rattle.theory.specs.ShiftUp.{shift_up-satisfied}
 use Rattle.theory.specs.DropZero.{drop-satisfied}
 use Rattle.theory.specs.Triangular.{Triangular, triangular-start, triangular-chain, multipliers_for-nonzero}

@@ -13,11 +13,12 @@ use Rattle.rules.specs.Elimination.{Side, State, refused, run, row_at}
 use Rattle.rules.specs.Sequences.{Sequence, left_value, value_of, SatisfiesEquation, Satisfies}
 use Rattle.lists.specs.Everywhere.{all_get_or}
 use Rattle.lists.specs.Tests.{T-&&}
-use Rattle.theory.specs.Steps.{current, Inconsistent, at_once, next_row, run-refused, step-refused-10}
+use Rattle.theory.specs.Steps.{current, Inconsistent, at_once, next_row}
+use Rattle.theory.proofs.Steps.{run-refused, step-refused-10}
 use Rattle.theory.specs.Values.{blocks-zero}
 use Rattle.theory.specs.Triangular.{Triangular, triangular-chain}
 use Rattle.theory.specs.LimitsKept.{StateShaped, chain-shapes}
-use Rattle.theory.specs.Solutions.{stepped-solutions, chain-solutions}
+use Rattle.theory.proofs.Solutions.{stepped-solutions, chain-solutions}
 
 -- It says 0 = q(n) at every n, and q is not zero everywhere (SCOPE 2.12).
 pub contradiction : (l : ℤ) (r : Row) (z : Sequence) → T (contradicts r) → SatisfiesEquation l z r → ⊥

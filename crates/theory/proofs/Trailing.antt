@@ -25,17 +25,18 @@ use Rattle.rules.specs.Sequences.{Sequence, Satisfies, Same, Dependent}
 use Rattle.theory.specs.Steps.{current, Chain}
 use Rattle.theory.specs.Triangular.{triangular-start}
 use Rattle.theory.specs.LimitsKept.{StateShaped, ValidRows}
-use Rattle.theory.specs.Solutions.{run-solutions}
-use Rattle.theory.specs.Inconsistency.{refused-unsatisfied}
-use Rattle.theory.specs.Dependence.{settled-independent, chain-dropped, settled-dropped}
-use Rattle.theory.specs.Ending.{mirror_outcome-refused}
+use Rattle.theory.proofs.Solutions.{run-solutions}
+use Rattle.theory.proofs.Inconsistency.{refused-unsatisfied}
+use Rattle.theory.proofs.Dependence.{settled-independent, chain-dropped, settled-dropped}
+use Rattle.theory.proofs.Ending.{mirror_outcome-refused}
 use Rattle.theory.specs.Report.{Past}
 use Rattle.theory.specs.Mirror.{mirror_sizes, Reaches, Spans, reflect, span-sum, mirror-span, mirror-valid}
 use Rattle.theory.specs.Mirror.{mirror-satisfies, mirror-span-sum}
 use Rattle.theory.specs.Mirror.{mirror-satisfies-back, mirror-dependent, valid-rows-span, valid-relations-span}
 use Rattle.theory.specs.BackSubstitution.{TriangularRows}
 use Rattle.theory.specs.Agreement.{trailing-agreement}
-use Rattle.theory.specs.Settled.{Diagonal, Settled, settled-valid, settled-triangular, settled-count, settled-rows, settled-diagonal}
+use Rattle.theory.specs.Settled.{Diagonal, Settled}
+use Rattle.theory.proofs.Settled.{settled-valid, settled-triangular, settled-count, settled-rows, settled-diagonal}
 use Rattle.theory.specs.Settled.{nonzero-of-diagonal, mirrored-diagonal}
 
 pub valid-shapes : {z : Sizes} {rows : List Row} {relations : List Relation} → ValidRows z rows relations

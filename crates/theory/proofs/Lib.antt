@@ -1,0 +1,10 @@
+pub mod Combine
+pub mod Steps
+pub mod Ending
+pub mod Solutions
+pub mod FirstIndex
+pub mod Inconsistency
+pub mod Dependence
+pub mod Settled
+pub mod Trailing
+pub mod Demands
