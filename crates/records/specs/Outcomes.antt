@@ -9,7 +9,7 @@
 --   first-has, first-as     what holds of that test
 --   fails-first, first-fails   a failure is the first nonzero sum, with its place; and the other way round
 --   refused-first, first-refused   12 comes exactly if, before any nonzero sum, one is not formed
-use Rattle.std.specs.Prelude.{ℕ, zero, suc, ◌+◌, ◌≡◌, refl, ◌≢◌, Bool, true, false, List, [], ◌∷◌, ◌++◌, T, length, ℤ, pos}
+use Rattle.std.specs.Prelude.{ℕ, suc, ◌+◌, ◌≡◌, refl, ◌≢◌, Bool, true, false, List, [], ◌∷◌, ◌++◌, T, length, ℤ, pos}
 use Rattle.std.proofs.Common.{add-zero, arith, sym, ◌∙◌, ap, ap₂, subst}
 use Rattle.std.proofs.Math.Option.{Option, none, some}
 use Rattle.algebra.specs.Polynomials.{is_zero_ℤ, is_zero_ℤ-iff}

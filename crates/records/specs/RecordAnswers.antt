@@ -17,9 +17,9 @@
 --   equations-count     as many tests as rows at each n
 --   span-few, t-near, l-near, index-size   how large right sizes are, and an index that is tested
 use Prim.Native.Nat.{ℕ, zero, suc, ◌+◌, ◌*◌, ◌≤◌, ◌<◌}
-use Rattle.std.proofs.Common.{add-zero, zero-mul, suc-mul, add-one, sym, ◌∙◌, ap₂, subst, ⊎_elim, leb→le, length-drop, length-append, length-take-le}
+use Rattle.std.proofs.Common.{add-zero, zero-mul, suc-mul, add-one, sym, ◌∙◌, ap₂, subst, leb→le, length-drop, length-append, length-take-le}
 use native.Mathlib.Omega.{arith}
-use Rattle.std.specs.Prelude.{◌≡◌, ◌≢◌, ◌⊎◌, Bool, T, take, drop, get_or, ℤ, pos, neg_ℤ, nat_abs, ◌-ℤ◌, ◌≤ℤ◌}
+use Rattle.std.specs.Prelude.{◌≡◌, ◌≢◌, Bool, T, take, drop, get_or, ℤ, pos, neg_ℤ, nat_abs, ◌-ℤ◌, ◌≤ℤ◌}
 use Rattle.std.proofs.Math.Path.{refl, ap}
 use Rattle.std.proofs.Math.Bool.{true, false, cond}
 use mathlib.Core.List.{List, [], ◌∷◌, ◌++◌}
@@ -113,15 +113,13 @@ answer-append k (t ∷ ts) us = go t.sum (answer-append (suc k) ts us)
     go none e = refl
     go (some s) e = step s (is_zero_ℤ s) e
 
--- What is not "fits" stays, whatever is tested later. The cases are numbered, "fits" by 0.
-pub stays : (tag : declared.Answer → ℕ) → ((k : ℕ) → tag (code.Fits k) ≡ 0) → (a : declared.Answer) (ts : List Tested)
-    → (tag a ≡ 1) ⊎ ((tag a ≡ 2) ⊎ (tag a ≡ 3)) → go_on ts (answer_of a) ≡ answer_of a
+-- What is not "fits" stays, whatever is tested later.
+pub stays : (a : declared.Answer) (ts : List Tested) → ((k : ℕ) → a ≡ code.Fits k → ⊥) → go_on ts (answer_of a) ≡ answer_of a
 unfolding go_on answer_of
-stays tag zero-tag (code.Fits k) ts h =
-    let z = zero-tag k in absurd (⊎_elim (λ e. omega arith) (λ w. ⊎_elim (λ e. omega arith) (λ e. omega arith) w) h)
-stays tag zero-tag (code.Equation i n s) ts h = refl
-stays tag zero-tag (code.Relation i n s) ts h = refl
-stays tag zero-tag (code.Refused k) ts h = refl
+stays (code.Fits k) ts h = absurd (h k refl)
+stays (code.Equation i n s) ts h = refl
+stays (code.Relation i n s) ts h = refl
+stays (code.Refused k) ts h = refl
 
 pub answer-count : (k j : ℕ) (ts : List Tested) → answer_to k ts ≡ fits j → j ≡ k + length ts
 unfolding answer_to

@@ -6,12 +6,12 @@
 --   record-limit        12 comes exactly if, before any nonzero sum, a value of Horner's rule for a tested row passes the limit
 --   satisfied-fits, satisfied-never-fails   a sequence that satisfies the system and agrees with the record never fails: the answer is
 --                       "fits" unless 12 comes
-use Rattle.std.specs.Prelude.{ℕ, zero, suc, ◌+◌, ◌*◌, ◌≤◌, ◌≡◌, ◌≢◌, ◌↔◌, List, length, take, ℤ, pos, ◌≤ℤ◌}
+use Rattle.std.specs.Prelude.{ℕ, suc, ◌+◌, ◌*◌, ◌≤◌, ◌≡◌, ◌≢◌, ◌↔◌, List, length, take, ℤ, pos, ◌≤ℤ◌}
 use Rattle.std.proofs.Common.{mul-le-mul, le_refl, suc-mul, arith, sym, ◌∙◌, get_or-take}
 use Rattle.std.proofs.Math.Path.{ap}
 use Rattle.std.proofs.Math.Dec.{T}
 use Rattle.lists.specs.Everywhere.{All, all-mono}
-use Rattle.lists.specs.Tests.{every, every-all, T-&&}
+use Rattle.lists.specs.Tests.{every-all, T-&&}
 use Rattle.rules.specs.Limits.{small}
 use Rattle.rules.specs.Rows.{Row, Relation, small_row}
 use Rattle.rules.specs.Layout.{size-bounds, NumbersRight, numbers_right-iff}

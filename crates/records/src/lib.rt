@@ -1,5 +1,7 @@
 // Recorded vectors: does a system explain them? `check_record` is the public entry point: no `requires`, and a contract that gives the
 // answer by one equation. It only reads what it is lent.
+#![tactic(auto)]
+
 ghost use Rattle.std.specs.Prelude.{◌≡◌, ◌&&◌, [], ◌∷◌, ◌+◌, ◌*◌, ◌-◌, ◌≤◌, ◌<◌, T, pos, nat_abs, ◌+ℤ◌, length, take, drop, get_or};
 ghost use Rattle.std.specs.Int.Signed.{le_z, lt_z};
 ghost use Rattle.lists.specs.Tests.{every};

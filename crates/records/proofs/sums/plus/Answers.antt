@@ -12,10 +12,10 @@ use Rattle.algebra.specs.Integers.{nat_abs-*ℤ, nat_abs-+ℤ}
 use Rattle.integers.specs.Ranges.{sfits-size}
 use Rattle.evaluation.specs.Evaluated.{value_limit}
 use Rattle.records.specs.Records.{value_bound}
-use Rattle.records.proofs.sums.plus.Statement.{statement}
-use Rattle.records.proofs.sums.plus.Tie as tie
+use Rattle.records.proofs.sums.plus.Goals as goal
+use Rattle.records.proofs.sums.plus.Goals.{Start}
 
-module _ (c : tie.Start) where
+module _ (c : Start) where
   product-size : nat_abs (c.args.value *ℤ c.args.number) ≤ value_limit * value_bound
   product-size = rw (nat_abs-*ℤ c.args.value c.args.number) (mul-le-mul c.requires.1 c.requires.2)
 
@@ -27,22 +27,19 @@ module _ (c : tie.Start) where
       sfits-size (c.args.sum +ℤ c.args.value *ℤ c.args.number) {k = 24 * (value_limit * value_bound)}
       (omega (arith, nat_abs-+ℤ c.args.sum (c.args.value *ℤ c.args.number), product-size, c.requires.0)) (lit< tt)
 
-mul-result : tie.Need-overflow-mul-result
-mul-result c = simp (to_z-of_z c.ranges.value, to_z-of_z c.ranges.number) (product-fits c)
+pub overflow_mul-result : goal.overflow_mul-result
+overflow_mul-result c = simp (to_z-of_z c.ranges.value, to_z-of_z c.ranges.number) (product-fits (goal.at.overflow_mul-result c).Start)
 
-add-result : tie.Need-overflow-add-result
-add-result c =
-    simp (to_z-of_z c.ranges.sum, to_z-of_z c.ranges.value, to_z-of_z c.ranges.number, to_z-of_z (product-fits c)) (sum_fits c)
+pub overflow_add-result : goal.overflow_add-result
+overflow_add-result c =
+    simp (to_z-of_z c.ranges.sum, to_z-of_z c.ranges.value, to_z-of_z c.ranges.number, to_z-of_z {w = w64} (product-fits c)) (sum_fits (goal.at.overflow_add-result c).Start)
 
-returns : tie.Need-returns
+pub returns : goal.returns
 returns c =
     simp (
       to_z-of_z c.ranges.sum,
       to_z-of_z c.ranges.value,
       to_z-of_z c.ranges.number,
-      to_z-of_z (product-fits c),
-      to_z-of_z (sum_fits c),
+      to_z-of_z {w = w64} (product-fits c),
+      to_z-of_z {w = w64} (sum_fits c),
     )
-
-pub plus-spec : {M : Type 1} → statement M
-plus-spec = tie.close (tie.spec mul-result add-result returns)

@@ -5,8 +5,6 @@ use mathlib.Core.List.{List}
 use Prim.Native.Nat.{ℕ, zero, suc, ◌*◌, ◌-◌, ◌≤◌}
 use native.Mathlib.Nat.{mul-le-mul, le_of_eq}
 use native.Mathlib.Omega.{arith}
-use borrow.Author.Rules.{rules}
-use denote.Enum.Declared.{tag_of}
 use lib.Dec.{T}
 use lib.IntN.{ℤ}
 use lib.ListN.{length, take}
@@ -21,14 +19,14 @@ use Rattle.records.specs.Records.{relation_tests, answer_to, values_right_of}
 use Rattle.records.specs.RecordChecks.{RecordRight, check_record-zero}
 use Rattle.records.specs.RecordAnswers.{answer_of, go_on, stays, answer-append, answer-count, equations-count, rows-small}
 use Rattle.records.specs.declared.Answer.TheVariants.{Fits}
-use Rattle.records.specs.contracts.Answer.{the_type}
-use Rattle.records.proofs.check_record.Statement.{statement}
-use Rattle.records.proofs.check_record.Tie as tie
+use mir.Syntax.{w64}
+use Rattle.records.proofs.check_record.Goals as goal
+use Rattle.records.proofs.check_record.Goals.{After-check-refusal, After-equations_fit-answer, Else-refusal-ne0, In-Fits, Start}
 
 -- The check.
-module _ (a : tie.After-check) where
-  abbrev s : tie.Start
-  s = a.before
+module _ (a : After-check-refusal) where
+  abbrev s : Start
+  s = (goal.at.After-check-refusal a).Start
 
   abbrev z : Stores.Sizes
   z = the_sizes_of s.args.sizes
@@ -38,11 +36,8 @@ module _ (a : tie.After-check) where
       check_record_of z s.args.count s.args.first s.args.vectors s.args.rows.now s.args.relations.now
       s.args.values.now
 
-  checked-is : a.check.result ≡ checked
-  checked-is = simp (to_z-of_z s.fits.first) at a.check.ensures
-
-check-requires : tie.Need-check-requires
-check-requires c κs = search rules
+  checked-is : a.check-refusal.result ≡ checked
+  checked-is = simp (to_z-of_z s.ranges.first) at a.check-refusal.ensures
 
 refuses : (z : Stores.Sizes) (count : ℕ) (first : ℤ) (vectors : ℕ) (rows relations values : List ℤ) (n : ℕ) → (n ≡ 0 → ⊥)
     → refused n ≡ after_check z count first vectors rows relations values n
@@ -50,22 +45,22 @@ unfolding after_check
 refuses z count first vectors rows relations values zero h = absurd (h refl)
 refuses z count first vectors rows relations values (suc n) h = refl
 
-returns : tie.Need-returns
+pub returns-then-refusal-ne0 : goal.returns-then-refusal-ne0
 unfolding answer_of record_call
-returns c =
-    let a = c.before in
+returns-then-refusal-ne0 c =
+    let a = (goal.at.returns-then-refusal-ne0 c).After-check-refusal in
     let st = s a in
     ap refused (checked-is a)
     ∙ refuses (z a) st.args.count st.args.first st.args.vectors st.args.rows.now st.args.relations.now
     st.args.values.now
-    (checked a) (λ e. c.if1.true (checked-is a ∙ e))
+    (checked a) (λ e. c.if-refusal-ne0.true (checked-is a ∙ e))
 
 -- The check passed.
-module _ (d : tie.Else1) where
-  abbrev a : tie.After-check
-  a = d.before
+module _ (d : Else-refusal-ne0) where
+  abbrev a : After-check-refusal
+  a = (goal.at.Else-refusal-ne0 d).After-check-refusal
 
-  abbrev st : tie.Start
+  abbrev st : Start
   st = s a
 
   right : RecordRight (z a) st.args.count st.args.first st.args.vectors st.args.rows.now st.args.relations.now
@@ -73,7 +68,7 @@ module _ (d : tie.Else1) where
   right =
       check_record-zero (z a) st.args.count st.args.first st.args.vectors st.args.rows.now st.args.relations.now
       st.args.values.now
-      (sym (checked-is a) ∙ d.if1.left)
+      (sym (checked-is a) ∙ d.if-refusal-ne0.false)
 
   bounds : SizeBounds (z a)
   bounds = size-bounds (z a) right.system.sizes
@@ -116,57 +111,52 @@ module _ (d : tie.Else1) where
   whole =
       ap (after_check (z a) st.args.count st.args.first st.args.vectors st.args.rows.now st.args.relations.now
       st.args.values.now)
-      (sym (checked-is a) ∙ d.if1.left)
+      (sym (checked-is a) ∙ d.if-refusal-ne0.false)
       ∙ answer-append 0 on-equations on-relations
 
-mul-need : tie.Need-overflow-mul-need
+pub overflow_mul-need : goal.overflow_mul-need
 unfolding the_sizes_of
-mul-need c = let d = c.before in omega (arith, mul-le-mul (right d).few (bounds d).few)
+overflow_mul-need c = let d = (goal.at.overflow_mul-need c).Else-refusal-ne0 in omega (arith, mul-le-mul (right d).few (bounds d).few)
 
-slice-aggregate-record : tie.Need-slice-aggregate-record
-slice-aggregate-record c = sym (known-long c.before.before)
+pub slice_bounds-record-end : goal.slice_bounds-record-end
+slice_bounds-record-end c = sym (known-long (goal.at.slice_bounds-record-end c).Else-refusal-ne0)
 
-equations-fit-requires : tie.Need-equations-fit-requires
+pub equations_fit-answer-requires : goal.equations_fit-answer-requires
 unfolding the_sizes_of Stores.equations
-equations-fit-requires c κs =
-    let d = c.before.before in
-    simp (to_z-of_z (st d).ranges.first) (
-      ((right d).system.sizes, (right d).first-near, (right d).few),
-      (
-        ((lengths d).0, rows-small (z (a d)) (rows_of (st d).args.sizes.equations (st d).args.rows.now) (numbers d).rows_right),
-        (known-near d, le_of_eq (sym (known-long d))),
-      ),
-    )
+equations_fit-answer-requires c =
+    let d = (goal.at.equations_fit-answer-requires c).Else-refusal-ne0 in
+    simp (to_z-of_z {w = w64} (st d).ranges.first) record {
+      t = ((right d).system.sizes, (right d).first-near, (right d).few);
+      equations_in_bounds = ((lengths d).0, rows-small (z (a d)) (rows_of (st d).args.sizes.equations (st d).args.rows.now) (numbers d).rows_right);
+      t_2 = (known-near d, le_of_eq (sym (known-long d)));
+    }
 
 -- What the equations answer.
-answered : (e : tie.After-equations-fit) → answer_of e.equations-fit.result ≡ answer_to 0 (on-equations e.before.before.before)
-answered e = let d = e.before.before.before in simp (to_z-of_z (st d).ranges.first) at e.equations-fit.ensures
+answered : (e : After-equations_fit-answer) → answer_of e.equations_fit-answer.result ≡ answer_to 0 (on-equations (goal.at.After-equations_fit-answer e).Else-refusal-ne0)
+answered e = let d = (goal.at.After-equations_fit-answer e).Else-refusal-ne0 in simp (to_z-of_z (st d).ranges.first) at e.equations_fit-answer.ensures
 
-enum-known-answer : tie.Need-enum-known-answer
-enum-known-answer c = search rules
-
-returns-2 : tie.Need-returns-2
-returns-2 c =
-    let e = c.before in
-    let d = e.before.before.before in
-    sym (stays (tag_of the_type) (λ k. refl) e.equations-fit.result (on-relations d) c.match.keys2)
+pub returns-in_default : goal.returns-in_default
+returns-in_default c =
+    let e = (goal.at.returns-in_default c).After-equations_fit-answer in
+    let d = (goal.at.After-equations_fit-answer e).Else-refusal-ne0 in
+    sym (stays e.equations_fit-answer.result (on-relations d) c.in_default.not-Fits)
     ∙ ap (go_on (on-relations d)) (answered e) ∙ sym (whole d)
 
 -- The equations fit.
-module _ (k : tie.After-known-told) where
-  abbrev e : tie.After-equations-fit
-  e = k.before.before.before
+module _ (k : In-Fits) where
+  abbrev e : After-equations_fit-answer
+  e = (goal.at.In-Fits k).After-equations_fit-answer
 
-  abbrev d : tie.Else1
-  d = e.before.before.before
+  abbrev d : Else-refusal-ne0
+  d = (goal.at.After-equations_fit-answer e).Else-refusal-ne0
 
   abbrev tested : ℕ
-  tested = k.before.answer.given.0.0
+  tested = k.in-Fits.tested
 
   all_fit : answer_to 0 (on-equations d) ≡ fits tested
   unfolding answer_of
   all_fit =
-      let known : e.equations-fit.result ≡ Fits tested = k.before.answer.given.1 in
+      let known : e.equations_fit-answer.result ≡ Fits tested = k.in-Fits.is in
       sym (answered e) ∙ ap answer_of known
 
   tested-few : tested ≤ 900
@@ -183,35 +173,19 @@ module _ (k : tie.After-known-told) where
         mul-le-mul some-turns some-rows,
       )
 
-relations-fit-requires : tie.Need-relations-fit-requires
+pub relations_fit-requires : goal.relations_fit-requires
 unfolding the_sizes_of
-relations-fit-requires c κs =
+relations_fit-requires c =
     let e = d c in
-    simp (to_z-of_z (st e).fits.first) (
-      ((right e).system.sizes, (right e).first-near, (right e).few),
-      (
-        ((count_right-iff (st e).args.count).0 (right e).system.few, (lengths e).1, (numbers e).relations-right),
-        (known-near e, le_of_eq (sym (known-long e)), tested-few c),
-      ),
-    )
+    simp (to_z-of_z {w = w64} (st e).ranges.first) record {
+      t = ((right e).system.sizes, (right e).first-near, (right e).few);
+      count_bound = ((count_right-iff (st e).args.count).0 (right e).system.few, (lengths e).1, (numbers e).relations-right);
+      t_2 = (known-near e, le_of_eq (sym (known-long e)), tested-few c);
+    }
 
-returns-3 : tie.Need-returns-3
+pub returns : goal.returns
 unfolding go_on
-returns-3 c =
-    let k = c.before in
-    (simp (to_z-of_z (st (d k)).fits.first) at c.relations-fit.ensures)
+returns c =
+    let k = (goal.at.returns c).In-Fits in
+    (simp (to_z-of_z {w = w64} (st (d k)).ranges.first) at c.relations_fit.ensures)
     ∙ sym (whole (d k) ∙ ap (go_on (on-relations (d k))) (all_fit k))
-
-pub check-record-spec : {M : Type 1} → statement M
-check-record-spec =
-    tie.close
-    (tie.spec
-    check-requires
-    returns
-    mul-need
-    slice-aggregate-record
-    equations-fit-requires
-    enum-known-answer
-    returns-2
-    relations-fit-requires
-    returns-3)
