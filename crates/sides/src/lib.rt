@@ -1,4 +1,6 @@
 // The side of a run, and what it decides on checked stores: the order in which relations are listed, the mirror, and the root report.
+#![tactic(auto)]
+
 pub mod listing;
 pub mod mirror;
 pub mod report;
