@@ -1,4 +1,6 @@
 // Rule 4: a combination of two rows, its division by the content and its limits.
+#![tactic(auto)]
+
 ghost use Rattle.std.specs.Prelude.{◌≡◌, true, false, not, ◌&&◌, ◌+◌, ◌*◌, ◌/◌, ◌^◌, ◌≤◌, ◌<◌, max, T, eqb, pos, nat_abs, length, take, drop, replicate};
 ghost use Rattle.std.specs.Int.Signed.{lt_z};
 ghost use Rattle.algebra.specs.Polynomials.{is_zero_of, add, mul};
