@@ -127,13 +127,17 @@ equations_fit-answer-requires c =
     let d = (goal.at.equations_fit-answer-requires c).Else-refusal-ne0 in
     simp (to_z-of_z {w = w64} (st d).ranges.first) record {
       t = ((right d).system.sizes, (right d).first-near, (right d).few);
-      equations_in_bounds = ((lengths d).0, rows-small (z (a d)) (rows_of (st d).args.sizes.equations (st d).args.rows.now) (numbers d).rows_right);
+      equations_in_bounds =
+        ((lengths d).0, rows-small (z (a d)) (rows_of (st d).args.sizes.equations (st d).args.rows.now) (numbers d).rows_right);
       t_2 = (known-near d, le_of_eq (sym (known-long d)));
     }
 
 -- What the equations answer.
-answered : (e : After-equations_fit-answer) → answer_of e.equations_fit-answer.result ≡ answer_to 0 (on-equations (goal.at.After-equations_fit-answer e).Else-refusal-ne0)
-answered e = let d = (goal.at.After-equations_fit-answer e).Else-refusal-ne0 in simp (to_z-of_z (st d).ranges.first) at e.equations_fit-answer.ensures
+answered : (e : After-equations_fit-answer) → answer_of e.equations_fit-answer.result
+    ≡ answer_to 0 (on-equations (goal.at.After-equations_fit-answer e).Else-refusal-ne0)
+answered e =
+    let d = (goal.at.After-equations_fit-answer e).Else-refusal-ne0 in
+    simp (to_z-of_z (st d).ranges.first) at e.equations_fit-answer.ensures
 
 pub returns-in_default : goal.returns-in_default
 returns-in_default c =

@@ -70,7 +70,8 @@ row_sums-requires c =
     let st = s d in
     let a = st.args in record {
       t = (
-        rw c.row_at.ensures.result_value (row_small a.equations a.rows.now (i d) (below d) st.requires.equations_in_bounds.0 st.requires.equations_in_bounds.1),
+        rw c.row_at.ensures.result_value
+          (row_small a.equations a.rows.now (i d) (below d) st.requires.equations_in_bounds.0 st.requires.equations_in_bounds.1),
         c.row_at.ensures.result_len,
         rw (to_z-of_z st.ranges.n) st.requires.equations_in_bounds.2,
       );

@@ -66,7 +66,9 @@ pub offset_bounds-formed-i : goal.offset_bounds-formed-i
 offset_bounds-formed-i c = omega (arith, c.loop-i-test.true, (s c).requires.equations_le_most_equations.0)
 
 pub bounds-formed-i : goal.bounds-formed-i
-bounds-formed-i c = let d = (goal.at.bounds-formed-i c).In-loop-i in omega (arith, d.loop-i-test.true, (s d).requires.equations_le_most_equations.0, (s d).requires.equations_le_most_equations.1)
+bounds-formed-i c =
+    let d = (goal.at.bounds-formed-i c).In-loop-i in
+    omega (arith, d.loop-i-test.true, (s d).requires.equations_le_most_equations.0, (s d).requires.equations_le_most_equations.1)
 
 pub returns-then-formed-i : goal.returns-then-formed-i
 unfolding answer_of
@@ -76,17 +78,24 @@ returns-then-formed-i c =
     (stored_past (sums d) (formed d) (s d).args.j (i d) c.if-formed-i.true))
 
 pub overflow_mul-sum : goal.overflow_mul-sum
-overflow_mul-sum c = let d = (goal.at.overflow_mul-sum c).In-loop-i in omega (arith, d.loop-i-test.true, (s d).requires.equations_le_most_equations.0)
+overflow_mul-sum c =
+    let d = (goal.at.overflow_mul-sum c).In-loop-i in omega (arith, d.loop-i-test.true, (s d).requires.equations_le_most_equations.0)
 
 pub overflow_add-sum : goal.overflow_add-sum
-overflow_add-sum c = let d = (goal.at.overflow_add-sum c).In-loop-i in omega (arith, d.loop-i-test.true, (s d).requires.equations_le_most_equations.0, (s d).requires.most_equations_in_bounds.1)
+overflow_add-sum c =
+    let d = (goal.at.overflow_add-sum c).In-loop-i in
+    omega (arith, d.loop-i-test.true, (s d).requires.equations_le_most_equations.0, (s d).requires.most_equations_in_bounds.1)
 
 pub offset_bounds-sums-i : goal.offset_bounds-sums-i
-offset_bounds-sums-i c = let d = (goal.at.offset_bounds-sums-i c).In-loop-i in omega (arith, d.loop-i-test.true, (s d).requires.equations_le_most_equations.0, (s d).requires.most_equations_in_bounds.1)
+offset_bounds-sums-i c =
+    let d = (goal.at.offset_bounds-sums-i c).In-loop-i in
+    omega (arith, d.loop-i-test.true, (s d).requires.equations_le_most_equations.0, (s d).requires.most_equations_in_bounds.1)
 
 pub bounds-sums-i : goal.bounds-sums-i
 bounds-sums-i c =
-    let d = (goal.at.bounds-sums-i c).In-loop-i in omega (arith, d.loop-i-test.true, (s d).requires.equations_le_most_equations.0, (s d).requires.most_equations_in_bounds.0, (s d).requires.most_equations_in_bounds.1)
+    let d = (goal.at.bounds-sums-i c).In-loop-i in
+    omega (arith, d.loop-i-test.true, (s d).requires.equations_le_most_equations.0, (s d).requires.most_equations_in_bounds.0,
+      (s d).requires.most_equations_in_bounds.1)
 
 -- A sum that is formed.
 module _ (k : After-sum-1) where
@@ -100,7 +109,9 @@ module _ (k : After-sum-1) where
   sum_fits = sfits_of k.sum-1.given
 
 pub overflow_add-result : goal.overflow_add-result
-overflow_add-result c = let e = d (goal.at.overflow_add-result c).After-sum-1 in omega (arith, e.loop-i-test.true, (s e).requires.equations_le_most_equations.0)
+overflow_add-result c =
+    let after = (goal.at.overflow_add-result c).After-sum-1 in
+    let e = d after in omega (arith, e.loop-i-test.true, (s e).requires.equations_le_most_equations.0)
 
 pub returns-then-sum-ne0 : goal.returns-then-sum-ne0
 unfolding answer_of
@@ -112,7 +123,9 @@ returns-then-sum-ne0 c =
     (sym (sym (whole e) ∙ answer-fails ((s e).args.before + i e) (test e) (rest e) (sum e) (sum-found k) nonzero))
 
 pub overflow_add-i : goal.overflow_add-i
-overflow_add-i c = let e = d (goal.at.overflow_add-i c).After-sum-1 in omega (arith, e.loop-i-test.true, (s e).requires.equations_le_most_equations.0)
+overflow_add-i c =
+    let after = (goal.at.overflow_add-i c).After-sum-1 in
+    let e = d after in omega (arith, e.loop-i-test.true, (s e).requires.equations_le_most_equations.0)
 
 pub loop-i-smaller : goal.loop-i-smaller
 loop-i-smaller c = let e = d (goal.at.loop-i-smaller c).After-sum-1 in omega (arith, e.loop-i-test.true)

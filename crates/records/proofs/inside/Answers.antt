@@ -42,10 +42,13 @@ pub overflow_add-n : goal.overflow_add-n
 overflow_add-n c = simp (to_z-of_z c.ranges.n, to_z-of_z c.ranges.t) (low_fits (goal.at.overflow_add-n c).Start)
 
 pub overflow_add-result : goal.overflow_add-result
-overflow_add-result c = let s = (goal.at.overflow_add-result c).Start in simp (to_z-of_z s.ranges.n, to_z-of_z s.ranges.l) (high_fits (goal.at.Start s).Start)
+overflow_add-result c =
+    let s = (goal.at.overflow_add-result c).Start in simp (to_z-of_z s.ranges.n, to_z-of_z s.ranges.l) (high_fits (goal.at.Start s).Start)
 
 pub overflow_add-result-then-first-n : goal.overflow_add-result-then-first-n
-overflow_add-result-then-first-n c = let s = (goal.at.overflow_add-result-then-first-n c).Start in simp (to_z-of_z s.ranges.first, vectors-is (goal.at.Start s).Start) (end_fits (goal.at.Start s).Start)
+overflow_add-result-then-first-n c =
+    let s = (goal.at.overflow_add-result-then-first-n c).Start in
+    simp (to_z-of_z s.ranges.first, vectors-is (goal.at.Start s).Start) (end_fits (goal.at.Start s).Start)
 
 -- The first test, of the numbers as they are.
 pub returns-then-first-n : goal.returns-then-first-n

@@ -89,7 +89,8 @@ module _ (s : Start) where
   top-fits : SFits w64 ((n +ℤ l) -ℤ first)
   top-fits =
       sfits-size ((n +ℤ l) -ℤ first) {k = 300000000}
-      (omega (arith, nat_abs-+ℤ (n +ℤ l) (neg_ℤ first), nat_abs-neg_ℤ first, nat_abs-+ℤ n l, l-small, s.requires.relation_length_in_bounds.1, s.requires.t.1)) (lit< tt)
+      (omega (arith, nat_abs-+ℤ (n +ℤ l) (neg_ℤ first), nat_abs-neg_ℤ first, nat_abs-+ℤ n l, l-small,
+        s.requires.relation_length_in_bounds.1, s.requires.t.1)) (lit< tt)
 
   abbrev tests : List Tested
   tests = relation_tests z first s.args.vectors s.args.values.now s.args.number (e ∷ [])
@@ -163,26 +164,34 @@ pub span-span-requires : goal.span-span-requires
 span-span-requires c = (s c).requires.t.0
 
 pub overflow_add-top : goal.overflow_add-top
-overflow_add-top c = let st = s (goal.at.overflow_add-top c).Else-not-inside in simp (to_z-of_z {w = w64} (n-fits st), to_z-of_z {w = w64} (l-fits st)) (high_fits st)
+overflow_add-top c =
+    let here = (goal.at.overflow_add-top c).Else-not-inside in
+    let st = s here in simp (to_z-of_z {w = w64} (n-fits st), to_z-of_z {w = w64} (l-fits st)) (high_fits st)
 
 pub overflow_sub-top : goal.overflow_sub-top
 overflow_sub-top c =
-    let st = s (goal.at.overflow_sub-top c).Else-not-inside in
-    simp (to_z-of_z {w = w64} (n-fits st), to_z-of_z {w = w64} (l-fits st), to_z-of_z {w = w64} (high_fits st), to_z-of_z st.ranges.first) (top-fits st)
+    let here = (goal.at.overflow_sub-top c).Else-not-inside in
+    let st = s here in
+    simp (to_z-of_z {w = w64} (n-fits st), to_z-of_z {w = w64} (l-fits st), to_z-of_z {w = w64} (high_fits st), to_z-of_z st.ranges.first)
+      (top-fits st)
 
 pub overflow_cast-top : goal.overflow_cast-top
 overflow_cast-top c =
-    let st = s (goal.at.overflow_cast-top c).Else-not-inside in
-    simp (to_z-of_z {w = w64} (n-fits st), to_z-of_z {w = w64} (l-fits st), to_z-of_z {w = w64} (high_fits st), to_z-of_z st.ranges.first, to_z-of_z {w = w64} (top-fits st))
-    (top-nonneg (goal.at.overflow_cast-top c).Else-not-inside, Fits-nat_abs tt (top-fits st))
+    let here = (goal.at.overflow_cast-top c).Else-not-inside in
+    let st = s here in
+    simp (to_z-of_z {w = w64} (n-fits st), to_z-of_z {w = w64} (l-fits st), to_z-of_z {w = w64} (high_fits st), to_z-of_z st.ranges.first,
+      to_z-of_z {w = w64} (top-fits st))
+    (top-nonneg here, Fits-nat_abs tt (top-fits st))
 
 pub row_sums-requires : goal.row_sums-requires
 unfolding top_at the_sizes_of
 row_sums-requires c =
     let d = (goal.at.row_sums-requires c).Else-not-inside in
     let st = s d in
-    simp (to_z-of_z {w = w64} (n-fits st), to_z-of_z {w = w64} (l-fits st), to_z-of_z {w = w64} (high_fits st), to_z-of_z st.ranges.first, to_z-of_z {w = w64} (top-fits st)) record {
-      t = (rw c.row_at-row.ensures.result_value st.requires.relation_length_in_bounds.2, c.row_at-row.ensures.result_len, omega (arith, near d));
+    simp (to_z-of_z {w = w64} (n-fits st), to_z-of_z {w = w64} (l-fits st), to_z-of_z {w = w64} (high_fits st), to_z-of_z st.ranges.first,
+      to_z-of_z {w = w64} (top-fits st)) record {
+      t = (rw c.row_at-row.ensures.result_value st.requires.relation_length_in_bounds.2, c.row_at-row.ensures.result_len,
+        omega (arith, near d));
       t_2 = (
         st.requires.t_2.0,
         room d,

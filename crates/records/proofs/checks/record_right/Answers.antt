@@ -37,7 +37,9 @@ returns-then-vectors-gt-VECTORS c = first-failed _ _ _ (lt-leb c.args.vectors mo
 
 pub returns-then-not-within : goal.returns-then-not-within
 unfolding record_right_of
-returns-then-not-within c = second-failed _ _ _ (few (goal.at.returns-then-not-within c).After-within) (sym (tested (goal.at.returns-then-not-within c).After-within) ∙ c.if-not-within.true)
+returns-then-not-within c =
+    let after = (goal.at.returns-then-not-within c).After-within in
+    second-failed _ _ _ (few after) (sym (tested after) ∙ c.if-not-within.true)
 
 pub returns-then-vectors-eq0 : goal.returns-then-vectors-eq0
 unfolding record_right_of

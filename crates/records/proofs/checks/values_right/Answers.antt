@@ -37,15 +37,17 @@ loop-i-init c = search rules
 pub returns-then-not-within : goal.returns-then-not-within
 unfolding values_right_of
 returns-then-not-within c =
-    let failed = sym (tested (goal.at.returns-then-not-within c).After-within) ∙ c.if-not-within.true in
-    sym (every-false right (values (goal.at.returns-then-not-within c).After-within) (i (goal.at.returns-then-not-within c).After-within) (pos 0) c.loop-i-test.true failed)
+    let after = (goal.at.returns-then-not-within c).After-within in
+    let failed = sym (tested after) ∙ c.if-not-within.true in
+    sym (every-false right (values after) (i after) (pos 0) c.loop-i-test.true failed)
 
 pub loop-i-preserved : goal.loop-i-preserved
 loop-i-preserved c =
+    let after = (goal.at.loop-i-preserved c).After-within in
     let passed = c.loop-i.invariant.1 in
-    let here = sym (tested (goal.at.loop-i-preserved c).After-within) ∙ c.if-not-within.false in
+    let here = sym (tested after) ∙ c.if-not-within.false in
     let inside = c.loop-i-test.true in
-    (omega arith, every-longer right (values (goal.at.loop-i-preserved c).After-within) (i (goal.at.loop-i-preserved c).After-within) (pos 0) inside passed here)
+    (omega arith, every-longer right (values after) (i after) (pos 0) inside passed here)
 
 pub returns : goal.returns
 unfolding values_right_of

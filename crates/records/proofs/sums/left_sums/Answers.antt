@@ -100,10 +100,14 @@ pub bounds-shape-place : goal.bounds-shape-place
 bounds-shape-place c = omega (arith, room (goal.at.bounds-shape-place c).In-loop-k)
 
 pub overflow_add-end : goal.overflow_add-end
-overflow_add-end c = omega (arith, below (goal.at.overflow_add-end c).In-loop-k, few (goal.at.overflow_add-end c).In-loop-k)
+overflow_add-end c =
+    let turn = (goal.at.overflow_add-end c).In-loop-k in
+    omega (arith, below turn, few turn)
 
 pub offset_bounds-shape-place-in-loop-k : goal.offset_bounds-shape-place-in-loop-k
-offset_bounds-shape-place-in-loop-k c = omega (arith, below (goal.at.offset_bounds-shape-place-in-loop-k c).In-loop-k, few (goal.at.offset_bounds-shape-place-in-loop-k c).In-loop-k)
+offset_bounds-shape-place-in-loop-k c =
+    let turn = (goal.at.offset_bounds-shape-place-in-loop-k c).In-loop-k in
+    omega (arith, below turn, few turn)
 
 pub bounds-shape-place-in-loop-k : goal.bounds-shape-place-in-loop-k
 bounds-shape-place-in-loop-k c = omega (arith, room (goal.at.bounds-shape-place-in-loop-k c).In-loop-k)
@@ -124,7 +128,8 @@ pub overflow_add-place : goal.overflow_add-place
 overflow_add-place c = let d = (goal.at.overflow_add-place c).In-loop-k in omega (arith, below d, few d)
 
 pub offset_bounds-shape-place-in-loop-k-2 : goal.offset_bounds-shape-place-in-loop-k-2
-offset_bounds-shape-place-in-loop-k-2 c = let d = (goal.at.offset_bounds-shape-place-in-loop-k-2 c).In-loop-k in omega (arith, below d, few d)
+offset_bounds-shape-place-in-loop-k-2 c =
+    let d = (goal.at.offset_bounds-shape-place-in-loop-k-2 c).In-loop-k in omega (arith, below d, few d)
 
 pub bounds-shape-place-in-loop-k-2 : goal.bounds-shape-place-in-loop-k-2
 bounds-shape-place-in-loop-k-2 c = room (goal.at.bounds-shape-place-in-loop-k-2 c).In-loop-k
@@ -156,7 +161,8 @@ loop-k-preserved c =
     let a = (s d).args in
     let added = rw (to_z-of_z {w = w64} (s d).ranges.n) at c.with_term-formed.ensures in (
       omega (arith, below d),
-      kept-both a.at a.tests a.tests (formed d) a.sums.now (sums d) c.with_term-formed.new.sums (omega arith) (so_far d).few (kept d) added.kept,
+      kept-both a.at a.tests a.tests (formed d) a.sums.now (sums d) c.with_term-formed.new.sums (omega arith) (so_far d).few (kept d)
+        added.kept,
       rw (to_z-of_z {w = w64} (s d).ranges.n)
           (left-next a.n (row d) (values d) a.base a.m (shape d) (k d) a.tests a.at (sums d) (formed d)
           c.with_term-formed.result c.with_term-formed.new.sums

@@ -32,7 +32,9 @@ overflow_mul-result c = simp (to_z-of_z c.ranges.value, to_z-of_z c.ranges.numbe
 
 pub overflow_add-result : goal.overflow_add-result
 overflow_add-result c =
-    simp (to_z-of_z c.ranges.sum, to_z-of_z c.ranges.value, to_z-of_z c.ranges.number, to_z-of_z {w = w64} (product-fits c)) (sum_fits (goal.at.overflow_add-result c).Start)
+    let start = (goal.at.overflow_add-result c).Start in
+    simp (to_z-of_z c.ranges.sum, to_z-of_z c.ranges.value, to_z-of_z c.ranges.number, to_z-of_z {w = w64} (product-fits c))
+      (sum_fits start)
 
 pub returns : goal.returns
 returns c =

@@ -78,7 +78,9 @@ pub slice_bounds-with_term-start : goal.slice_bounds-with_term-start
 slice_bounds-with_term-start d = (shaped (c (goal.at.slice_bounds-with_term-start d).After-left_sums-formed)).right-from
 
 pub slice_bounds-with_term-end : goal.slice_bounds-with_term-end
-slice_bounds-with_term-end d = let e = c (goal.at.slice_bounds-with_term-end d).After-left_sums-formed in omega (arith, (shaped e).right-to, (s e).requires.t.1)
+slice_bounds-with_term-end d =
+    let after = (goal.at.slice_bounds-with_term-end d).After-left_sums-formed in
+    let e = c after in omega (arith, (shaped e).right-to, (s e).requires.t.1)
 
 pub with_term-requires : goal.with_term-requires
 unfolding values_right_of every

@@ -140,7 +140,8 @@ plus-is : (g : After-plus)
     to_z w64 (of_z w64 g.plus.result) ≡ get_or (sums d) (place d) (pos 0) +ℤ factor d *ℤ number d
 plus-is g =
     let d = g.before.before.before in
-    to_z-of_z {w = w64} (sfits_of g.plus.type_inv) ∙ (simp (to_z-of_z (sum_fits d), to_z-of_z (factor-fits d), to_z-of_z (number_fits d)) at g.plus.ensures)
+    to_z-of_z {w = w64} (sfits_of g.plus.type_inv)
+      ∙ (simp (to_z-of_z (sum_fits d), to_z-of_z (factor-fits d), to_z-of_z (number_fits d)) at g.plus.ensures)
 
 pub loop-j-preserved : goal.loop-j-preserved
 loop-j-preserved c =

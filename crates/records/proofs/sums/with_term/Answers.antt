@@ -112,11 +112,14 @@ pub overflow_add-n : goal.overflow_add-n
 overflow_add-n c = simp (to_z-of_z {w = w64} (s c).ranges.n, j-is c) (index-fits c)
 
 pub evaluate-requires : goal.evaluate-requires
-evaluate-requires c = ((s c).requires.t.0, simp (to_z-of_z {w = w64} (s c).ranges.n, j-is c, to_z-of_z {w = w64} (index-fits c)) (index-near c))
+evaluate-requires c =
+    ((s c).requires.t.0, simp (to_z-of_z {w = w64} (s c).ranges.n, j-is c, to_z-of_z {w = w64} (index-fits c)) (index-near c))
 
 -- What Horner's rule gives there.
-value_of : (e : After-evaluate) → formed_of e.evaluate.result ≡ horner (index (goal.at.After-evaluate e).In-loop-j) (p (goal.at.After-evaluate e).In-loop-j)
-value_of e = simp (to_z-of_z (s (goal.at.After-evaluate e).In-loop-j).ranges.n, j-is (goal.at.After-evaluate e).In-loop-j, to_z-of_z (index-fits (goal.at.After-evaluate e).In-loop-j)) at e.evaluate.ensures
+value_of : (e : After-evaluate) → formed_of e.evaluate.result
+    ≡ horner (index (goal.at.After-evaluate e).In-loop-j) (p (goal.at.After-evaluate e).In-loop-j)
+value_of e = simp (to_z-of_z (s (goal.at.After-evaluate e).In-loop-j).ranges.n, j-is (goal.at.After-evaluate e).In-loop-j,
+    to_z-of_z (index-fits (goal.at.After-evaluate e).In-loop-j)) at e.evaluate.ensures
 
 pub shape_of-sums-in_default : goal.shape_of-sums-in_default
 shape_of-sums-in_default c = (so_far (goal.at.shape_of-sums-in_default c).In-loop-j).kept.same_length

@@ -44,7 +44,8 @@ overflow_add-number c = let d = (goal.at.overflow_add-number c).In-loop-c in ome
 pub column_term-count-requires : goal.column_term-count-requires
 column_term-count-requires c =
     let d = (goal.at.column_term-count-requires c).In-loop-c in record {
-      coefficient_count_in_bounds = (omega (arith, below d, (s d).requires.block_length_in_bounds), (s d).requires.block_length_in_bounds.1);
+      coefficient_count_in_bounds =
+        (omega (arith, below d, (s d).requires.block_length_in_bounds), (s d).requires.block_length_in_bounds.1);
       shape_len = ((so_far d).same_length ∙ (s d).requires.shape_len.0, omega (arith, (so_far d).few, below d, (s d).requires.shape_len.1));
     }
 
