@@ -5,7 +5,7 @@
 --   Below n p              every coefficient of p has a size below n
 --
 -- Main statements
---   read-back, zero_bits, nonzero-bits   an i64 and its bits
+--   read_back, zero_bits, nonzero-bits   an i64 and its bits
 --   skip-zero              one coefficient more from the front that is zero and changes nothing
 --   is_zero-false, lowest-first   a nonzero coefficient makes p nonzero; at the front it is the lowest
 --   or-zero, join-next     joined bits are 0 exactly if both are; one coefficient more is joined
