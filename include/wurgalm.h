@@ -1,5 +1,5 @@
 /* The recurrence regulariser for C: the functions of the static library target/staticlib/libwurgalm.a, which the two commands at
- * the beginning of README.md build. Their contracts are proved: crates/exports/src/lib.rt. What they promise stands in
+ * the beginning of README.md build. Their contracts are proved: crates/exports_c/src/lib.rt. What they promise stands in
  * docs/SCOPE.md, whose rules are cited here by their numbers. examples/run.c is an example program.
  *
  * A store is lent as a pointer and the number of its members. A store that a function takes as `const` is only read. A

@@ -2,8 +2,8 @@
 
 A wheel holds the modules of `wurgalm` and `libwurgalm.so`, a shared library linked from the archive of the proved library. The archive is
   - what WURGALM_LIBRARY names: the archive, or a shared library that was linked before
-  - or `libexports.a` in this folder, where a source distribution has it
-  - or `target/staticlib/libexports.a` of the repository around this folder, which `rt staticlib exports` writes.
+  - or `libwurgalm.a` in this folder, where a source distribution has it
+  - or `target/staticlib/libwurgalm.a` of the repository around this folder, which `tools/build` writes.
 CC names another compiler than `cc`. Nothing is written but the wheel or the source distribution.
 """
 import base64
@@ -22,9 +22,9 @@ from pathlib import Path
 HERE = Path(__file__).resolve().parent.parent
 PROJECT = tomllib.loads((HERE / "pyproject.toml").read_text(encoding="utf-8"))["project"]
 NAME = f"{PROJECT['name']}-{PROJECT['version']}"
-ARCHIVE = "libexports.a"
+ARCHIVE = "libwurgalm.a"
 SHARED = "libwurgalm.so"
-HOW = "run `rt check exports && rt staticlib exports` in the repository's root"
+HOW = "run `tools/build` in the repository's root"
 
 
 def get_requires_for_build_wheel(config_settings=None):

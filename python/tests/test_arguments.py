@@ -334,7 +334,7 @@ class Missing(unittest.TestCase):
             self.assertEqual(done.returncode, 1)
             *frames, last = done.stderr.splitlines()
             self.assertTrue(last.startswith(f"ImportError: {named} is not "), last)
-            self.assertIn("run `rt check exports && rt staticlib exports`", last)
+            self.assertIn("run `tools/build`", last)
             self.assertIn("then `pip install --no-index python/`", last)
             files = [line for line in frames if line.lstrip().startswith("File ")]
             self.assertTrue(len(files) == 2 and files[1].split('"')[1].endswith("wurgalm/__init__.py"), done.stderr)
@@ -348,7 +348,7 @@ class Missing(unittest.TestCase):
             words = [sys.executable, "-B", "-S", "-c", "import wurgalm.calls"]
             done = subprocess.run(words, env={"PYTHONPATH": folder}, capture_output=True, text=True)
             last = done.stderr.splitlines()[-1]
-            self.assertRegex(last, "^ImportError: .*/wurgalm/libwurgalm.so is not there: run `rt check exports")
+            self.assertRegex(last, "^ImportError: .*/wurgalm/libwurgalm.so is not there: run `tools/build`")
 
     def test_a_library_without_the_calls(self):
         import _ctypes

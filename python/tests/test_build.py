@@ -67,11 +67,11 @@ class Build(unittest.TestCase):
 
     def test_a_missing_library(self):
         with mock.patch.dict(os.environ, {"WURGALM_LIBRARY": str(self.folder / "none.a")}):
-            with self.assertRaisesRegex(SystemExit, "run `rt check exports && rt staticlib exports`"):
+            with self.assertRaisesRegex(SystemExit, "run `tools/build`"):
                 wurgalm_build.build_wheel(self.folder)
 
     def test_an_archive_that_cannot_be_linked(self):
-        broken = self.folder / "libexports.a"
+        broken = self.folder / "libwurgalm.a"
         broken.write_bytes(b"no archive")
         environment = {**os.environ, "WURGALM_LIBRARY": str(broken), "PYTHONPATH": str(made.ROOT / "python/backend")}
         code = "import wurgalm_build, sys; wurgalm_build.build_wheel(sys.argv[1])"
@@ -82,7 +82,7 @@ class Build(unittest.TestCase):
         self.assertNotIn("Traceback", done.stderr)
 
     def test_a_missing_compiler(self):
-        archive = str(made.ROOT / "target/staticlib/libexports.a")
+        archive = str(made.ROOT / "target/staticlib/libwurgalm.a")
         with mock.patch.dict(os.environ, {"CC": str(self.folder / "cc"), "WURGALM_LIBRARY": archive}):
             self.assertRaisesRegex(SystemExit, "it is not there", wurgalm_build.build_wheel, self.folder)
 

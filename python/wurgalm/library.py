@@ -24,7 +24,7 @@ MATRIX = 136 * 64
 
 _SHARED = "libwurgalm.so"
 _HOW = (
-    "run `rt check exports && rt staticlib exports` and then `pip install --no-index python/` in the repository, "
+    "run `tools/build` and then `pip install --no-index python/` in the repository, "
     "or name a shared library in WURGALM_LIBRARY"
 )
 _OCTETS = "bytes (or a buffer of unsigned bytes)"

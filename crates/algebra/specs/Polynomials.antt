@@ -19,7 +19,7 @@
 --   length-add, length-mul, ..   how many coefficients each operation's result has
 --   Polynomial-add-comm, Polynomial-add-assoc, scale-add, ..   laws of sums and multiples as equations of lists
 --   mirror-mirror, negate-negate   mirror and negate undo themselves
---   shift_by-shift_by  a shift by b and then by a is the shift by a + b; shiftBy-inverse: by c and by -c undo each other
+--   shift_by-shift_by  a shift by b and then by a is the shift by a + b; shift_by-inverse: by c and by -c undo each other
 use Rattle.std.specs.Prelude.{◌≡◌, refl, ◌≢◌, ◌↔◌, ℕ, zero, suc, ◌+◌, ◌≤◌, max, Bool, true, ◌&&◌, not, cond, List, [], ◌∷◌, ◌++◌, map, T, eqb, get_or, length, take, drop, replicate, ℤ, pos, neg_ℤ, nat_abs, ◌+ℤ◌, ◌*ℤ◌}
 use Rattle.std.proofs.Common.{sym, ◌∙◌, ap, ap₂, subst, ⊎_elim, not-suc-le-zero, le_of_suc-le-suc, arith, eqb→eq, T_not, take-append-drop}
 use Rattle.std.proofs.Math.Nat.{zero-max, max-zero, suc-max-suc}

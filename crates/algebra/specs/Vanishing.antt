@@ -26,7 +26,7 @@ use Rattle.algebra.specs.Coefficients.{is_zero-lowest}
 
 -- ---- tests for zero
 
--- The two directions of `isZeroℤ-iff`.
+-- The two directions of `is_zero_ℤ-iff`.
 pub is_zero_ℤ-sound : (a : ℤ) → T (is_zero_ℤ a) → a ≡ pos 0
 is_zero_ℤ-sound a = (is_zero_ℤ-iff a).0
 

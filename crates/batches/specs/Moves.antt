@@ -3,13 +3,13 @@
 -- Main definitions
 --   meaning stage b bytes    what a batch still writes for all the bytes that come
 --   CountedIn stage b        a batch that has begun has at most 1,000 sheets
---   Look left bytes n        why `nextSheet left bytes` is n
+--   Look left bytes n        why `next_sheet left bytes` is n
 --   Moved, Move stage b bytes m   one move, and what it comes to: breaks_off, begun_with, answered_by
 --   Alive stage              a stage that a batch moves from
 --   Ready stage b bytes      the bytes wait, or are passed over, or there is a move
 --
 -- Main statements
---   look, look_is, look-waits   `nextSheet` by its cases
+--   look, look_is, look-waits   `next_sheet` by its cases
 --   look-some, look-inside   a sheet that is there was to come, and its bytes are there
 --   counted-in               a batch of at most 1,000 sheets is one in every stage
 --   ready                    one of the three is so

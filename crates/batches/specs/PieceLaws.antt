@@ -8,7 +8,7 @@
 --   Run s store remaining written   calls for the remaining input, and then the end, with what they write
 --
 -- Main statements
---   check-right, right-check  `streamCheck` finds nothing wrong with such streams, and with no others
+--   check-right, right-check  `stream_check` finds nothing wrong with such streams, and with no others
 --   kept                      the bytes that are held afterwards are kept so
 --   call-is                   a call on such a stream is the feed of the bytes held and the piece
 --   piece-refusal, piece-right   it is not refused, and gives such a stream back

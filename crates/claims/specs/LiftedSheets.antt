@@ -5,7 +5,7 @@
 --   read-course, write-course  every call takes one of the courses
 --   read_number, read-refused, read-fault, read_short, read-accepts, read-sheet   a call that reads a sheet
 --   write-number, write-refused, write-range, write-short, write-numbers, write-accepts, write_bytes   one that writes a sheet
---   written-sheet, read-back, write-back   a sheet that was written reads back as what the stores held, and the other way round
+--   written-sheet, read_back, write-back   a sheet that was written reads back as what the stores held, and the other way round
 --   place-zero, place-two, place-one, part_none, part-polynomial, part-sixteen   the part that holds one polynomial
 use Prim.Native.Nat.{ℕ, zero, suc, pred, ◌≤◌, ◌<◌}
 use Rattle.std.proofs.Common.{le_trans, sym, ◌∙◌, ap₂, leb→le}

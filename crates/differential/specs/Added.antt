@@ -7,8 +7,8 @@
 --
 -- Main statements
 --   add-three            a term's polynomial changes the first three numbers of a polynomial
---   row_of-added          the row of those numbers is `addTerm`
---   added-within         no number grows by more than `termBound`
+--   row_of-added          the row of those numbers is `add_term_of`
+--   added-within         no number grows by more than `term_bound`
 use Prim.Native.Nat.{ℕ, zero, suc, pred, max, ◌+◌, ◌*◌, ◌-◌, ◌≤◌, ◌<◌, zero-le}
 use Rattle.std.proofs.Common.{le_of_eq, suc-ne-zero, arith, sym, ◌∙◌, subst, length-drop, length-take-le}
 use Rattle.std.proofs.Math.Nat.{suc_inj}

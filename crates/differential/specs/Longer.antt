@@ -7,7 +7,7 @@
 --
 -- Main statements
 --   differential-accepted  a sheet that is read is valid
---   differential-window    the first `mostSheetBytes` bytes are read as all bytes are
+--   differential-window    the first `most_sheet_bytes` bytes are read as all bytes are
 --   differential-long      bytes that are so many or more are a fault
 --   read-window, write-window   so the calls do with the first bytes what they would do with all
 use Prim.Native.Nat.{ℕ, zero, suc, ◌+◌, ◌*◌, ◌≤◌, ◌<◌, zero-le, suc-le-suc}

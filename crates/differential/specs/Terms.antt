@@ -5,7 +5,7 @@
 --   term-value       the coefficient of a term at n is its polynomial's value times the unknown's coefficient at
 --                    n - j + k
 --   add_term-shaped   adding a term keeps the shape of a row in a store
---   add_term-value    adding a term adds what the term means; addTerms-value: and so adding several
+--   add_term-value    adding a term adds what the term means; add_terms-value: and so adding several
 --   add_terms-right   the right side of the row stays
 --   row-value        the value of an equation's row at n is the coefficient of the equation's sum
 use Prim.Native.Nat.{ℕ, zero, suc, ◌+◌, ◌-◌, ◌≤◌, ◌<◌, pred, max, zero-le}

@@ -39,7 +39,7 @@ state_need = 11
 abbrev number_at : List ℤ → ℕ → ℤ
 number_at numbers i = get_or numbers i (pos 0)
 
--- Counts by their size; their signs are looked at by `countsRight`.
+-- Counts by their size; their signs are looked at by `counts_right_of`.
 unfoldable pub held_in : List ℤ → Held
 held_in numbers =
     record {

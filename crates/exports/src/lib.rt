@@ -1,7 +1,7 @@
 // The entry points for programs in C and other languages, by plain names: the public calls of `elimination`, `sheets`,
 // `differential`, `records`, `solutions`, `steps` and `logs`, and the whole batch of `batches`, the fields of whose results are numbers
 // of a lent store. The crates `exported_*` have what each does, this one the sizes as single arguments. No `requires`, and contracts
-// that give the refusal and every lent store by equations (SCOPE 3.51, 9.1, 9.2).
+// that give the refusal and every lent store by equations (SCOPE 3.51, 9.1, 9.2). C links them from the static library `exports_c`.
 ghost use Rattle.std.specs.Prelude.{◌≡◌};
 ghost use Rattle.rules.specs.Elimination.{leading, trailing};
 ghost use Rattle.solutions.specs.AnswerStores.{work_of};
@@ -20,8 +20,7 @@ use sides::Side;
 
 // A run on the leading side. `result` gets ten numbers: the relation count, the shifts, c(1) to c(4), 1 or 0 for a
 // root, the root, the rank, how often the root occurs (SCOPE 3.52).
-#[unsafe(no_mangle)]
-pub extern "C" fn wurgalm_run_leading(
+pub fn wurgalm_run_leading(
     rows: &mut [i64],
     relations: &mut [i64],
     m: usize,
@@ -45,8 +44,7 @@ pub extern "C" fn wurgalm_run_leading(
 }
 
 // The same on the trailing side.
-#[unsafe(no_mangle)]
-pub extern "C" fn wurgalm_run_trailing(
+pub fn wurgalm_run_trailing(
     rows: &mut [i64],
     relations: &mut [i64],
     m: usize,
@@ -71,8 +69,7 @@ pub extern "C" fn wurgalm_run_trailing(
 
 // A sheet read into the stores. `result` gets nine numbers: m, l, t, the relation count, c(1) to c(4), the number
 // of equations (SCOPE 3.52).
-#[unsafe(no_mangle)]
-pub extern "C" fn wurgalm_read_sheet(
+pub fn wurgalm_read_sheet(
     bytes: &[u8],
     rows: &mut [i64],
     relations: &mut [i64],
@@ -86,8 +83,7 @@ pub extern "C" fn wurgalm_read_sheet(
 
 // The system of the stores written as a sheet. `order` holds four numbers: different columns of 1..m and zeros past them
 // (SCOPE 3.55, 4.53). `result` gets one number: the length of the sheet (SCOPE 3.52).
-#[unsafe(no_mangle)]
-pub extern "C" fn wurgalm_write_sheet(
+pub fn wurgalm_write_sheet(
     rows: &[i64],
     relations: &[i64],
     m: usize,
@@ -117,8 +113,7 @@ pub extern "C" fn wurgalm_write_sheet(
 // A whole batch. `result` gets one number: the length of the output. A broken batch is accepted, and its output ends in
 // the line `3`. An output too short is found in the course of the work: all of it is zero (SCOPE 5.32), and so is the
 // number of the result.
-#[unsafe(no_mangle)]
-pub extern "C" fn wurgalm_batch(input: &[u8], output: &mut [u8], res: &mut [i64]) -> u8
+pub fn wurgalm_batch(input: &[u8], output: &mut [u8], res: &mut [i64]) -> u8
     ensures { record { refusal = result; byte_store = output.new; result_store = res.new }
         ≡ export_batch input.now output.old res.old }
 {
@@ -131,8 +126,7 @@ pub extern "C" fn wurgalm_batch(input: &[u8], output: &mut [u8], res: &mut [i64]
 }
 
 // The recurrence of a differential sheet read into the stores. `result` gets nine numbers, as for a sheet (SCOPE 3.52).
-#[unsafe(no_mangle)]
-pub extern "C" fn wurgalm_read_differential(
+pub fn wurgalm_read_differential(
     bytes: &[u8],
     rows: &mut [i64],
     relations: &mut [i64],
@@ -145,8 +139,7 @@ pub extern "C" fn wurgalm_read_differential(
 }
 
 // The recurrence of a differential sheet written as a sheet. `result` gets one number: its length (SCOPE 3.52).
-#[unsafe(no_mangle)]
-pub extern "C" fn wurgalm_write_recurrence(sheet: &[u8], bytes: &mut [u8], res: &mut [i64]) -> u8
+pub fn wurgalm_write_recurrence(sheet: &[u8], bytes: &mut [u8], res: &mut [i64]) -> u8
     ensures { record { refusal = result; byte_store = bytes.new; result_store = res.new }
         ≡ export_recurrence sheet.now bytes.old res.old }
 {
@@ -156,8 +149,7 @@ pub extern "C" fn wurgalm_write_recurrence(sheet: &[u8], bytes: &mut [u8], res: 
 // Does the system explain recorded vectors? There are `vectors` vectors of m numbers each, that of index `first` first. `result` gets
 // four numbers: 0 fits, 1 equation, 2 relation; the number tested, or which failed, from 1; its index and its sum, both 0 where all
 // fit (SCOPE 3.52, 12.24).
-#[unsafe(no_mangle)]
-pub extern "C" fn wurgalm_check_record(
+pub fn wurgalm_check_record(
     rows: &[i64],
     relations: &[i64],
     m: usize,
@@ -188,8 +180,7 @@ pub extern "C" fn wurgalm_check_record(
 
 // The state before the first step of a run on the leading side. `state` gets eleven numbers: m, the equations, l, t, the relation count,
 // the settled rows, c(1) to c(4), the shifts (SCOPE 11.12, 11.42).
-#[unsafe(no_mangle)]
-pub extern "C" fn wurgalm_prepare(
+pub fn wurgalm_prepare(
     rows: &[i64],
     relations: &[i64],
     m: usize,
@@ -214,8 +205,7 @@ pub extern "C" fn wurgalm_prepare(
 
 // At most `budget` steps of the run that `state` says. `result` gets twelve numbers: the steps, 1 or 0 for a finished run, and behind
 // them the ten of a run if it is finished, else zeros (SCOPE 11.44).
-#[unsafe(no_mangle)]
-pub extern "C" fn wurgalm_run_steps(
+pub fn wurgalm_run_steps(
     rows: &mut [i64],
     relations: &mut [i64],
     state: &mut [i64],
@@ -236,8 +226,7 @@ pub extern "C" fn wurgalm_run_steps(
 
 // A run on the leading side with its log. `log` gets the steps and behind them the columns; `result` gets eleven numbers: the ten of a
 // run and the steps of the log (SCOPE 13.52, 13.55).
-#[unsafe(no_mangle)]
-pub extern "C" fn wurgalm_run_logged(
+pub fn wurgalm_run_logged(
     rows: &mut [i64],
     relations: &mut [i64],
     m: usize,
@@ -270,8 +259,7 @@ pub extern "C" fn wurgalm_run_logged(
 
 // The replay of a log of so many steps, from wherever it comes. `result` gets the ten numbers of a run, whose shifts are the steps up
 // (SCOPE 13.4, 13.43).
-#[unsafe(no_mangle)]
-pub extern "C" fn wurgalm_replay(
+pub fn wurgalm_replay(
     rows: &mut [i64],
     relations: &mut [i64],
     m: usize,
@@ -301,8 +289,7 @@ pub extern "C" fn wurgalm_replay(
 // Which sequences satisfy the system and are zero outside the indices 0 to N? `list` gets them, one in each 64 numbers; the three stores
 // before it are lent for the work. `result` gets three numbers: 1 or 0 for whether there is an N from 0 on, that N, the number of
 // sequences (SCOPE 3.52, 14.63, 14.64).
-#[unsafe(no_mangle)]
-pub extern "C" fn wurgalm_solutions(
+pub fn wurgalm_solutions(
     rows: &[i64],
     relations: &[i64],
     m: usize,

@@ -12,7 +12,7 @@
 --   shown-text                 the lines of a text are those that were put there
 --   begun-got, line-got        a refusal of 0 tells that a line was read: its numbers, and the bytes after it
 --   begun-fault, line-fault    another refusal is the fault of the line
---   raised_is, counted_is, closed_is   the tests of `raisedOf`, `countedOf` and `closeText` passed
+--   raised_is, counted_is, closed_is   the tests of `raised_of`, `counted_of` and `close_text` passed
 --   counted-left, counted-tally, counted-few   a batch of at most 1,000 sheets, counted as `rules` counts
 --   close-closing, close-broken                its last lines, as `rules` closes
 --   refusal-broken, refusal-refused, refusal-accepted   the lines of `rules`

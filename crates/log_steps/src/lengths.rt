@@ -1,4 +1,4 @@
-// The lengths of a log: `stepLength`, `mostSteps` and `ownNeed` of the specs (SCOPE 13.1, 13.11).
+// The lengths of a log: `step_length`, `most_steps` and `own_need` of the specs (SCOPE 13.1, 13.11).
 use polynomials::lengths::COEFFICIENTS;
 use stores::lengths::COLUMNS;
 

@@ -5,7 +5,7 @@
 --   Below n p              every coefficient of p has a size below n
 --
 -- Main statements
---   read-back, zero_bits, nonzero-bits   an i64 and its bits
+--   read_back, zero_bits, nonzero-bits   an i64 and its bits
 --   skip-zero              one coefficient more from the front that is zero and changes nothing
 --   is_zero-false, lowest-first   a nonzero coefficient makes p nonzero; at the front it is the lowest
 --   or-zero, join-next     joined bits are 0 exactly if both are; one coefficient more is joined
@@ -13,7 +13,7 @@
 --   zeros-part, zeros_within   several zero coefficients less from the top; no power past the others
 --   within-down, degree-bottom   one zero coefficient less from the top; none left past power 0: the degree is 0
 --   content-next, one-gcd  a coefficient joins the greatest common divisor of those passed; 1 stays 1
---   quotient-stored        the quotient by a positive i64, stored, is a coefficient of `divideBy`
+--   quotient-stored        the quotient by a positive i64, stored, is a coefficient of `divide_by`
 --   small_at, below-of-small, below-divide_by   sizes of coefficients and of quotients
 --   content-bounds         the content of two polynomials within ±C that are not both zero is positive and at most C
 --   signs-turned, signs-kept   the two cases of rule 2's signs

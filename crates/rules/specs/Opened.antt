@@ -1,7 +1,7 @@
 -- What has to open for the definitions to compute.
 --
 -- Main definitions
---   opened    a theorem that says `unfolding opened` computes with `sheetAnswer`, `batchOutput` and the runs by `refl`
+--   opened    a theorem that says `unfolding opened` computes with `sheet_answer`, `batch_output` and the runs by `refl`
 use Rattle.rules.specs.Elimination.{trailing_run_of, whole_run_of, report, reported_times}
 use Rattle.rules.specs.Stores.{equations}
 use Rattle.rules.specs.Sequences.{value_of}

@@ -2,7 +2,7 @@
 --
 -- Main statements
 --   handed-valid, handed-triangular   its system is valid, and its settled rows are triangular: what the steps of a run keep
---   handed-few, handed-ends     at most `mostSteps` steps can be taken of it, and a run with so many ends
+--   handed-few, handed-ends     at most `most_steps` steps can be taken of it, and a run with so many ends
 --   call_none                   with budget 0 it is checked, and nothing moves
 use Prim.Native.Nat.{ℕ, zero, suc, ◌+◌, ◌*◌, ◌-◌, ◌≤◌, ◌<◌, pred}
 use Rattle.std.proofs.Common.{not-suc-le-zero, le_refl, mul-le-mul_left, sym, ◌∙◌, ap₂, take-append-drop, length-take-le}

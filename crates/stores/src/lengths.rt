@@ -1,5 +1,5 @@
-// The lengths of rows, relations and their stores: `columnCount`, `mostEquations`, `blockCount`, `polynomialCount`, `blockLength`, `entriesLength`,
-// `rowLength` and `relationLength` of `rules`, the largest row store and the relation store (SCOPE 3.2, 3.4, 3.11).
+// The lengths of rows, relations and their stores: `column_count`, `most_equations`, `block_count`, `polynomial_count`, `block_length`, `entries_length`,
+// `row_length` and `relation_length` of `rules`, the largest row store and the relation store (SCOPE 3.2, 3.4, 3.11).
 use polynomials::lengths::COEFFICIENTS;
 
 // The columns of a block, for the largest number of unknowns (SCOPE 1.1).

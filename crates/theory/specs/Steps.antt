@@ -109,7 +109,7 @@ pub length-exchange : (s : State) (i j : ℕ) → length (exchange s i j).rows �
 unfolding exchange put_row row_at
 length-exchange s i j = length-swap s.rows no_row i j
 
--- ---- narrowFirst: the exchange of rule 2, made only if row j is the wider
+-- ---- narrow_first: the exchange of rule 2, made only if row j is the wider
 
 pub data Narrowed (s : State) (i j : ℕ) : State → Type 0 where
   kept : width (row_at s j) ≤ width (row_at s i) → Narrowed s i j s

@@ -162,7 +162,7 @@ impl Subject for Outside {
     }
 }
 
-/// The static library of `exports`, and the programs `regularise` and `induce`.
+/// The static library of `exports_c`, and the programs `regularise` and `induce`.
 pub struct Library {
     program: PathBuf,
     induce: PathBuf,
@@ -191,7 +191,7 @@ impl Library {
     /// As [`Library::found`], or a message and the end of the program.
     pub fn needed() -> Library {
         Library::found().unwrap_or_else(|| {
-            eprintln!("needs target/bin/regularise and target/bin/induce: run `rt check regularise induce`");
+            eprintln!("needs target/bin/regularise and target/bin/induce: run `tools/build`");
             std::process::exit(2)
         })
     }

@@ -1,6 +1,6 @@
 //! The root search beside earlier ones, on the same 100 polynomials of degree 15. Each argument is NAME=PROGRAM, a build of `root_values`,
-//! which reads polynomials and prints their roots; the first is the one that is measured. `tests/searches/run` makes them from the
-//! repository's history. All have to find the roots that `outside` finds. For each kind of polynomial a line of the table gives the
+//! which reads polynomials and prints their roots; the first is the one that is measured. `tests/searches/run` builds that one.
+//! All have to find the roots that `outside` finds. For each kind of polynomial a line of the table gives the
 //! instructions and the time of one search, and what share of an earlier search each is. It ends with 1 if a share is above 1.
 
 use compare::random::Random;
