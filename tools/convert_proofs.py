@@ -144,7 +144,9 @@ class Function:
             return m[0]
         lone = not base and steps == ".fits"
         steps = steps[1:].split(".")
-        steps = [s if lone or s == "last" and k and re.fullmatch(r"(?:if|match|loop)\d*", steps[k - 1]) else WORDS.get(s, s) for k, s in enumerate(steps)]
+        # a variable, not a word of the kit before this one: an argument, or what a loop or a join gave it
+        own = lambda s, before: before == "args" or s == "last" and re.fullmatch(r"(?:if|match|loop)\d*", before) or s == "left" and re.fullmatch(r"loop\d*", before)
+        steps = [s if lone or own(s, steps[k - 1] if k else base) else WORDS.get(s, s) for k, s in enumerate(steps)]
         for k in range(len(steps)):
             given = re.fullmatch(r"t([1-9]\d*)", steps[k])
             if given and (base if k == 0 else steps[k - 1]) == "args" and int(given[1]) <= len(self.arguments):
@@ -173,7 +175,7 @@ class Function:
                 k += 1
                 if k < len(steps):
                     field = self.fields[step].get(plain(steps[k]), steps[k])
-                    field = "type_inv" if field == "type-inv" else field
+                    field = {"type-inv": "type_inv", "ok": "type_inv", "kept": "auto"}.get(field, field)
                     out.append(field)
                     k += 1
                     if field == "ensures" and step in self.clauses:
