@@ -103,7 +103,7 @@ use Rattle.records.specs.Records.{Which, Tested, fits, fails, limit_passed, test
 use Rattle.records.specs.RecordMeaning.{Agrees, RowPasses}
 use Rattle.records.specs.Outcomes.{First, FailsWith}
 use Rattle.records.specs.Explained.{named, Explains}
-use Rattle.records.specs.RecordPromises as Promises
+use Rattle.records.proofs.RecordPromises as Promises
 use Rattle.export_results.specs.Results.{Exported, run_need}
 use Rattle.exported_sheets.specs.Writes.{Written, not_written}
 use Rattle.claims.specs.RunWords.{Ran, FoundBefore, FoundDuring, RunNumber, Rewritten, Cleared, Kept, InRange}

@@ -8,5 +8,4 @@ pub mod RecordChecks
 pub mod RecordMeaning
 pub mod Outcomes
 pub mod Explained
-pub mod RecordPromises
 pub mod RecordExamples

@@ -7,38 +7,27 @@
 --   Known                       the sums of the first n are those that a function gives, up to the first at which it gives none
 --   AllKnown                    so they are for each row of a store
 --   stored_sum, stored_tests          the tests at one n, by the sums that stand in the store
---
--- Main statements
---   added_none, added_next, added-stop   one n more
---   kept-none, kept-both        one change after the other
---   known_next, left-next       one polynomial more
---   sum-size                    how large the sum of the first terms is
---   left_near                   which leaves room for one product more
---   less-right, row-known       a product with -1 is subtracted: the right side after the terms
---   all-next                    one row more
---   stored-tests, stored-formed     the tests of the rows are those; where they fit, all sums are formed
 use Prim.Native.Nat.{ℕ, zero, suc, ◌+◌, ◌*◌, ◌-◌, ◌≤◌, ◌<◌, zero-le}
 use Rattle.std.proofs.Common.{mul-le-mul, zero-add, add-one, ◌∙◌, subst, inl, inr, leb→le, le→leb, get_or-set_same, get_or-set_other}
-use Rattle.std.proofs.Math.Nat.{add-mul}
 use Rattle.std.proofs.Math.Decide.{dec_lt, dec_le}
 use native.Mathlib.Omega.{arith}
-use Rattle.std.specs.Prelude.{◌≡◌, refl, ◌⊎◌, cond, List, [], ◌∷◌, T, leb, length, take, drop, set, replicate, ℤ, negsuc, neg_ℤ, nat_abs, ◌+ℤ◌, ◌-ℤ◌, ◌*ℤ◌}
+use Rattle.std.specs.Prelude.{◌≡◌, refl, ◌⊎◌, cond, List, [], ◌∷◌, T, leb, length, take, drop, set, replicate, ℤ, nat_abs, ◌+ℤ◌, ◌*ℤ◌}
 use Rattle.std.proofs.Math.Path.{sym, ap, ap₂}
 use Rattle.std.proofs.Math.Option.{Option, none, some}
 use Rattle.std.proofs.Math.ListN.{get_or, length-set}
 use Rattle.std.proofs.lemmas.List.{length-replicate, get_or-replicate}
-use Rattle.std.proofs.Math.IntN.{pos, *ℤ-negsuc}
-use Rattle.algebra.specs.Integers.{nat_abs-+ℤ, nat_abs-*ℤ, *ℤ-1}
+use Rattle.std.proofs.Math.IntN.{pos}
+use Rattle.algebra.specs.Integers.{nat_abs-+ℤ, nat_abs-*ℤ}
 use Rattle.algebra.specs.Polynomials.{Polynomial}
 use Rattle.lists.specs.Tests.{true_of, false_of}
-use Rattle.rules.specs.Limits.{entries_length, row_length}
+use Rattle.rules.specs.Limits.{row_length}
 use Rattle.rules.specs.Rows.{Row}
 use Rattle.rules.specs.Stores.{row_of, rows_of}
 use Rattle.evaluation.specs.Evaluated.{value_limit, after, horner, after-some, horner-size, some-none}
-use Rattle.records.specs.Records.{Tested, equation, row_sum_of, row_tests, less_right, value_bound, values_right_of, most_vectors, answer_to, fits}
+use Rattle.records.specs.Records.{Tested, equation, row_sum_of, row_tests, value_bound, values_right_of, most_vectors, answer_to, fits}
 use Rattle.records.specs.RecordSums.{block_room, values-small}
 use Rattle.records.specs.RecordAnswers.{answer-fits, rows_next, rows_end, row-tests-next}
-use Rattle.records.specs.Terms.{term_length_of, term_polynomial, with_product, term_sum, after_same, count_place, Shaped}
+use Rattle.records.specs.Terms.{term_length_of, term_polynomial, with_product, term_sum}
 
 -- The numbers from a place on, each m behind the last, one for each n.
 abbrev pub NumbersThere : List ℤ → ℕ → ℕ → ℕ → Type 0
@@ -223,46 +212,6 @@ sum-size n row values base shape (suc k) s h e =
     rw (nat_abs-*ℤ u.0 x)
     (mul-le-mul (horner-size n p u.0 u.1) (values-small values h (base + get_or shape (k * term_length_of + 2) 0))) in
     rw z (omega (arith, sum-size n row values base shape k w.0 h w.1, nat_abs-+ℤ w.0 (u.0 *ℤ x), size))
-
--- A product with -1 is subtracted.
-pub less-right : (n : ℤ) (p : Polynomial) (s : ℤ) → with_product n (negsuc 0 ∷ []) 0 p s ≡ less_right n p s
-unfolding with_product less_right
-less-right n p s =
-    after_same _ (λ b. some (s -ℤ b)) (λ v. ap (λ b. some (s +ℤ b)) (*ℤ-negsuc v 0 ∙ ap neg_ℤ (*ℤ-1 v))) (horner n p)
-
--- The terms, and then the right side.
-module _ (m span : ℕ) (row values : List ℤ) (shape : List ℕ) (n : ℤ) (top : ℕ) (shaped : Shaped m span row shape)
-    (inside : span ≤ top) where
-  abbrev right : Polynomial
-  right = take (get_or shape (count_place + 1) 0 - entries_length) (drop entries_length row)
-
-  abbrev count : ℕ
-  count = get_or shape count_place 0
-
-  row-sum : (j : ℕ) → row_sum_of m span values (top + j) (row_of row) (n +ℤ pos j)
-      ≡ after (with_product (n +ℤ pos j) (negsuc 0 ∷ []) (0 + j * 0) right) (left_sum n row values ((top - span) * m) m shape count j)
-  unfolding row_sum_of less_right
-  row-sum j =
-      let k = n +ℤ pos j in
-      let base : (top + j - span) * m ≡ (top - span) * m + j * m =
-      let e : top + j - span ≡ top - span + j = omega arith in ap (λ i. i * m) e ∙ add-mul (top - span) j m in
-      let place : 0 ≡ 0 + j * 0 = omega arith in
-      ap (after (less_right k (row_of row).right))
-      (sym (shaped.sums k values (top + j) (omega arith)) ∙ ap (λ b. term_sum k row values b shape count) base)
-      ∙ after_same _ (with_product k (negsuc 0 ∷ []) (0 + j * 0) right)
-      (λ s.
-      ap (after (λ b. some (s -ℤ b))) (sym (shaped.right k)) ∙ sym (less-right k right s)
-      ∙ ap (λ i. with_product k (negsuc 0 ∷ []) i right s) place)
-      (left_sum n row values ((top - span) * m) m shape count j)
-
-  pub row-known : (tests at : ℕ) (middle : List ℤ) (formed r : ℕ) (later : List ℤ)
-      → Known (left_sum n row values ((top - span) * m) m shape count) tests at middle formed
-      → Added n right (negsuc 0 ∷ []) 0 0 at formed middle r later
-      → Known (λ j. row_sum_of m span values (top + j) (row_of row) (n +ℤ pos j)) tests at later r
-  row-known tests at middle formed r later known added =
-      known_same _ (λ j. row_sum_of m span values (top + j) (row_of row) (n +ℤ pos j)) tests at later r row-sum
-      (known_next (left_sum n row values ((top - span) * m) m shape count) tests at middle formed n right (negsuc 0 ∷ []) 0 0 r later
-      known added)
 
 -- Sums of at most twenty terms leave room for one product more.
 pub left_near : (n : ℤ) (row values : List ℤ) (base m : ℕ) (shape : List ℕ) (k tests at : ℕ) (sums : List ℤ) (count : ℕ)

@@ -10,7 +10,8 @@ use Rattle.lists.specs.Tests.{every, every-part}
 use Rattle.rules.specs.Limits.{entries_length, row_length, small}
 use Rattle.records.specs.Records.{values_right_of}
 use Rattle.records.specs.Terms.{count_place, Shaped, numbers-room, fine-wider}
-use Rattle.records.specs.Successive.{Kept, Known, left_sum, kept-both, left_near, row-known}
+use Rattle.records.specs.Successive.{Kept, Known, left_sum, kept-both, left_near}
+use Rattle.records.proofs.Successive.{row-known}
 use mir.Syntax.{w64}
 use Rattle.records.proofs.sums.row_sums.Goals as goal
 use Rattle.records.proofs.sums.row_sums.Goals.{After-left_sums-formed, After-shape-3-1, Start}

@@ -23,6 +23,7 @@ use Rattle.records.specs.RecordChecks.{RecordRight, check_record-zero}
 use Rattle.records.specs.RecordMeaning.{Agrees, RowPasses}
 use Rattle.records.specs.Outcomes.{First, FailsWith, fails-first}
 use Rattle.records.specs.Explained as Explained
+use Rattle.records.proofs.Explained as ExplainedLaws
 use Rattle.records.specs.Explained.{named, Explains, satisfied-explains}
 
 -- What agrees with a record agrees with the part that is looked at.
@@ -85,11 +86,11 @@ module _ (z : Sizes) (count : ℕ) (first : ℤ) (vectors : ℕ) (row_store rela
       → (answer ≡ fits (length made)) ↔ Explains z first vectors rows relations y
   record-fits y a no-limit =
       let known-agrees = agrees-known z.m first vectors values y a in (
-        λ e. Explained.fits-explains z first vectors known rows relations ordered rows-used relations-used y known-agrees (length made)
+        λ e. ExplainedLaws.fits-explains z first vectors known rows relations ordered rows-used relations-used y known-agrees (length made)
             (sym call-is ∙ e),
         λ x.
             call-is
-            ∙ Explained.explains-fits z first vectors known rows relations ordered rows-used relations-used y known-agrees x
+            ∙ ExplainedLaws.explains-fits z first vectors known rows relations ordered rows-used relations-used y known-agrees x
             (λ e. no-limit (call-is ∙ e)),
       )
 
@@ -100,7 +101,7 @@ module _ (z : Sizes) (count : ℕ) (first : ℤ) (vectors : ℕ) (row_store rela
   record-fails w n s e = (
     fails-first 0 w n s made (sym call-is ∙ e),
     λ y a.
-        Explained.failure-value z first vectors known rows relations ordered rows-used relations-used y
+        ExplainedLaws.failure-value z first vectors known rows relations ordered rows-used relations-used y
         (agrees-known z.m first vectors values y a)
         w n s (sym call-is ∙ e),
   )
@@ -109,14 +110,14 @@ module _ (z : Sizes) (count : ℕ) (first : ℤ) (vectors : ℕ) (row_store rela
   pub record-limit : (answer ≡ refused limit_passed)
       ↔ First (λ t. RowPasses z.m (span z) (named rows relations t.which) t.index) made
   record-limit =
-      let i = Explained.limit-iff z first vectors known rows relations ordered in
+      let i = ExplainedLaws.limit-iff z first vectors known rows relations ordered in
       (λ e. i.0 (sym call-is ∙ e), λ f. call-is ∙ i.1 f)
 
   module _ (y : Sequence) (satisfied : Satisfies z.l rows relations y) (agrees : Agrees z.m first vectors values y) where
     -- No test of a record fails of which some sequence that satisfies the system has the vectors.
     pub satisfied-never-fails : (w : Which) (n s : ℤ) → answer ≢ fails w n s
     satisfied-never-fails w n s e =
-        Explained.explains-never-fails z first vectors known rows relations ordered rows-used relations-used y
+        ExplainedLaws.explains-never-fails z first vectors known rows relations ordered rows-used relations-used y
         (agrees-known z.m first vectors values y agrees) (satisfied-explains z first vectors rows relations y satisfied) w n s
         (sym call-is ∙ e)
 

@@ -1,0 +1,4 @@
+pub mod Successive
+pub mod RecordMeaning
+pub mod Explained
+pub mod RecordPromises
