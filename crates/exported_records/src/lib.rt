@@ -1,4 +1,6 @@
 // The answer to recorded vectors as numbers of a lent store.
+#![tactic(auto)]
+
 ghost use Rattle.std.specs.Prelude.{◌≡◌, ◌≤◌, length};
 ghost use Rattle.stores.specs.Validity.{the_sizes_of};
 ghost use Rattle.records.specs.RecordAnswers.{answer_of};

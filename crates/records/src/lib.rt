@@ -27,6 +27,7 @@ const LIMIT_PASSED: u8 = 12;
 // What the tests of a record say (SCOPE 12.24): all fit, and how many were tested; or the first failure, by the number of its equation
 // or relation, its index and its nonzero sum; or a refusal. `answer_of` states what each case means.
 #[derive(Drop)]
+#[derive(Clone, Copy)]
 pub enum Answer {
     Fits(usize),
     Equation(usize, i64, i64),
