@@ -1,5 +1,7 @@
 // The constant rows of a system, for the indices 0 to N, in the matrix of a call for polynomial solutions (SCOPE 14.3). `constant_rows` asks
 // for a checked system and for a matrix that is long enough.
+#![tactic(auto)]
+
 ghost use Rattle.std.specs.Prelude.{◌≡◌, suc, ◌+◌, ◌*◌, ◌≤◌, ◌<◌, T, pos, nat_abs, ◌+ℤ◌, ◌-ℤ◌, length, take, get_or};
 ghost use mathlib.Core.List.{[], map, flatten};
 ghost use Rattle.evaluation.specs.Evaluated.{farthest};
