@@ -16,7 +16,7 @@ WORD = r"[^\s(){}.;,@\"«»⌜⌝]+"
 TOKEN = re.compile(WORD)
 PATH = re.compile(rf"(?<![^\s(){{}};,«»])({WORD})((?:\.{WORD})+)|(?<=\))((?:\.{WORD})+)")
 HEAD = re.compile(r"^(?:use |--)")
-WORDS = {"pre": "requires", "inv": "invariant", "taken": "true", "left": "false", "last": "new", "fits": "ranges", "came": "branch", "type-inv": "type_inv"}
+WORDS = {"pre": "requires", "kept": "auto", "inv": "invariant", "taken": "true", "left": "false", "last": "new", "fits": "ranges", "came": "branch", "type-inv": "type_inv"}
 FIELDS = {"result", "ensures", "requires", "new", "auto", "given", "true", "false", "invariant", "is", "branch", "type_inv"}
 
 
@@ -144,9 +144,7 @@ class Function:
             return m[0]
         lone = not base and steps == ".fits"
         steps = steps[1:].split(".")
-        # a variable, not a word of the kit before this one: an argument, or what a loop or a join gave it
-        own = lambda s, before: before == "args" or s == "last" and re.fullmatch(r"(?:if|match|loop)\d*", before) or s == "left" and re.fullmatch(r"loop\d*", before)
-        steps = [s if lone or own(s, steps[k - 1] if k else base) else WORDS.get(s, s) for k, s in enumerate(steps)]
+        steps = [s if lone or self.is_own(base, steps[:k], s) else WORDS.get(s, s) for k, s in enumerate(steps)]
         for k in range(len(steps)):
             given = re.fullmatch(r"t([1-9]\d*)", steps[k])
             if given and (base if k == 0 else steps[k - 1]) == "args" and int(given[1]) <= len(self.arguments):
@@ -157,6 +155,15 @@ class Function:
             way = self.steps_of("c", [self.step_names[base]] + steps)
             return base + way.removeprefix(label) if way.startswith(label + ".") else m[0]
         return self.steps_of(base, steps)
+
+    def is_own(self, base, before, word):
+        """Is a word of the kit here a name of the source, a parameter's, a field's or a variable's?"""
+        last = before[-1] if before else base
+        if {"args", "fits", "ranges", "result"} & set(before) or last == "args" or not before and base in self.given:
+            return True
+        if re.fullmatch(r"loop\d*", last):
+            return word not in ("inv", "came")
+        return word == "last" and bool(re.fullmatch(r"(?:if|match)\d*", last))
 
     def steps_of(self, base, steps):
         out, k = [], 0
@@ -202,7 +209,7 @@ class Function:
             if len(re.findall(rf"(?:let|λ) {re.escape(m[1])}\b", text)) > 1:
                 self.tell(f"`{m[1]}` is bound twice")
                 break
-            rest = re.sub(rf"(?<![^\s(){{}};,«»]){re.escape(m[1])}(?![^\s(){{}}.;,«»])", m[2], text[m.end():])
+            rest = re.sub(rf"(?<![^\s(){{}};,«»]){re.escape(m[1])}(?![^\s(){{}}.;,«»]| = )", m[2], text[m.end():])
             text = text[:m.start()] + rest.lstrip()
         return text
 
@@ -215,6 +222,8 @@ class Function:
                     self.helpers[name] = plain(section[2])
             for name, place in re.findall(rf"(?m)^(?:abbrev |pub )*({WORD}) : \({WORD} : tie\.([A-Z][\w'-]*)", piece):
                 self.helpers[name] = plain(place)
+            for name, place, target in re.findall(rf"(?m)^(?:abbrev |pub )*({WORD}) : (?:\({WORD} : )?tie\.([A-Z][\w'-]*)\)? → tie\.([A-Z][\w'-]*)$", piece):
+                self.helpers[name], self.contexts[name] = plain(place), plain(target)
 
         for name, place in re.findall(rf"(?m)^ *(?:abbrev |pub )*({WORD}) : tie\.([A-Z][\w'-]*)[^→\n]*$", "\n".join(pieces)):
             if not place.startswith("Need"):
@@ -228,7 +237,7 @@ class Function:
 
     def up(self, base, env, target):
         """The record of the place `target` that the context `base` goes past."""
-        if env[base] == target and target != "Start":
+        if env[base] == target:
             return base
         self.used.add(self.places[target])
         at = self.asked.get(base, self.places[env[base]])
@@ -248,7 +257,12 @@ class Function:
                 return m[0]
             return f"{m[1]}{name} = {self.up(base, env, target)}"
         text = re.sub(rf"(?m)^( *)({WORD}) = ({WORD})(?:\.before)+$", named, text)
-        for name, made in re.findall(rf"let ({WORD}) = ({WORD}) {WORD} in[ \n]", text):
+        def taken(m):
+            if m[1] not in self.contexts or self.helpers.get(m[1]) is None or m[2] != m[3]:
+                return m[0]
+            return f"{m[1]} {m[2]} = {self.up(m[2], {m[2]: self.helpers[m[1]]}, self.contexts[m[1]])}"
+        text = re.sub(rf"(?m)^({WORD}) ({WORD}) = ({WORD})(?:\.before)+$", taken, text)
+        for name, made in re.findall(rf"let ({WORD}) = ({WORD}) {WORD}(?:\.before)* in[ \n]", text):
             if made in self.contexts:
                 env[name] = self.contexts[made]
         seen = set()
@@ -291,6 +305,7 @@ class Function:
         if not self.helpers:
             return text
         helper = "|".join(sorted(map(re.escape, self.helpers), key=len, reverse=True))
+        text = re.sub(rf"(?<![^\s(){{}};,«»])({helper})\n +({WORD}(?:\.before)+\))", r"\1 \2", text)
         return re.sub(rf"(?<![^\s(){{}};,«»])({helper}) ({WORD}|\({WORD} {WORD}\))((?:\.before)*)(?![^\s(){{}};,«»])", handed, text)
 
     def joined(self, text):
@@ -345,6 +360,8 @@ class Function:
                 env.setdefault(name, place)
         text = self.joined(text)
         text = self.deepened(text, env)
+        self.given = set(re.findall(rf"let ({WORD}) = [^\s]*\.(?:args|fits|ranges|result) in", text))
+        self.given |= set(re.findall(rf"let ({WORD}) = \({WORD} {WORD}\)\.(?:args|fits|ranges|result) in", text))
         self.step_names = {}
         for name, step in re.findall(rf"let ({WORD}) = {WORD}(?:\.before)*\.({WORD}) in", text):
             if plain(step) in self.labels and len(re.findall(rf"(?:let|λ) {re.escape(name)}(?![^\s(){{}}.;,«»])", text)) == 1:

@@ -7,7 +7,7 @@
 -- Main statements
 --   rest-lefts       what stands behind the fourth section changes right sides only
 --   lines-front      relations that are read into the front of a store
-use Rattle.std.specs.Prelude.{ℕ, zero, suc, ◌+◌, ◌*◌, ◌≤◌, ◌≡◌, refl, length, take, drop, ℤ}
+use Rattle.std.specs.Prelude.{ℕ, ◌+◌, ◌*◌, ◌≤◌, ◌≡◌, refl, length, drop, ℤ}
 use Rattle.std.proofs.Common.{suc-ne-zero, le_refl, ◌∙◌, take_at}
 use Rattle.std.proofs.Math.Nat.{suc_inj}
 use Rattle.std.proofs.Math.Path.{sym, ap}

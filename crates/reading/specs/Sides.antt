@@ -15,7 +15,7 @@ use Prim.Native.Nat.{ℕ, zero, suc, ◌+◌, ◌*◌, ◌-◌, ◌≤◌, ◌<�
 use Rattle.std.proofs.Common.{suc-ne-zero, le_of_eq, zero-add, add-one, ◌∙◌, length-set, length-drop, drop_of_length-le, take_all, take_at, drop-cons, drop-set-lt, take-suc-set, length-take-le}
 use Rattle.std.proofs.Math.Nat.{suc_inj, suc-mul, mul-le-mul_right, sub-zero}
 use native.Mathlib.Omega.{arith}
-use Rattle.std.specs.Prelude.{◌≡◌, Bool, false, ◌&&◌, cond, T, get_or, set, ℤ, pos, nat_abs}
+use Rattle.std.specs.Prelude.{◌≡◌, Bool, ◌&&◌, cond, T, get_or, set, ℤ, pos, nat_abs}
 use Rattle.std.proofs.Math.Path.{refl, sym, ap, ap₂}
 use Rattle.std.proofs.Math.Bool.{true, and-true, and_assoc}
 use mathlib.Core.List.{List, [], ◌∷◌, ◌++◌, map, zip_with, append-nil}
@@ -30,9 +30,9 @@ use Rattle.lists.specs.Everywhere.{All}
 use Rattle.lists.specs.Tests.{every}
 use Rattle.lists.specs.Parts.{parts, parts-length, get_or-parts}
 use Rattle.lists.specs.Images.{get_or_map, map-set}
-use Rattle.lists.specs.Padded.{pad_to, length-pad_to}
+use Rattle.lists.specs.Padded.{length-pad_to}
 use Rattle.lists.specs.Pasted.{parts-paste-in, parts-paste-past, drop-paste-later, paste-first}
-use Rattle.rules.specs.Limits.{coefficient_count, column_count, block_count, block_length, entries_length, row_length, relation_length}
+use Rattle.rules.specs.Limits.{coefficient_count, block_count, block_length, entries_length, row_length, relation_length}
 use Rattle.rules.specs.Rows.{Row, Relation, no_row}
 use Rattle.rules.specs.Stores.{row_of, rows_of, relation_of, relations_of}
 use Rattle.rules.specs.Layout.{block_of}

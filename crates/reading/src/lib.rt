@@ -1,5 +1,7 @@
 // A sheet read into lent stores, in one pass over its bytes: no `requires`, and a contract that gives the result and both stores by
 // an equation with `rules`.
+#![tactic(auto)]
+
 ghost use Rattle.std.specs.Prelude.{◌≡◌};
 ghost use Rattle.rules.specs.SheetCalls.{read_call};
 ghost use Rattle.reading.specs.ReadCalls.{call_of};
