@@ -40,6 +40,7 @@ pub struct Progress {
 
 // What a step or a run comes to: a refusal, or the end, or the progress with which the run goes on.
 #[derive(Drop)]
+#[derive(Clone, Copy)]
 pub struct Outcome {
     pub refusal: u8,
     pub done: bool,
