@@ -1,5 +1,7 @@
 // The elimination of constant rows by rules 2, 4 and 5 (SCOPE 14.4), on the rows of a lent store, 64 numbers a row. `eliminate` asks for rows
 // within ±C, and leaves the settled ones in front.
+#![tactic(auto)]
+
 ghost use Rattle.std.specs.Prelude.{◌≡◌, ◌≢◌, [], ◌+◌, ◌*◌, ◌^◌, ◌≤◌, ◌<◌, T, pos, nat_abs, ◌+ℤ◌, ◌*ℤ◌, length, get_or, take};
 ghost use Rattle.lists.specs.Tests.{every};
 ghost use Rattle.rules.specs.Limits.{bound, small};
