@@ -13,14 +13,14 @@
 --   multiplicity-mul      multiplicities add over products
 --   total_multiplicity, multiplicities-few   the sum of the multiplicities of different roots is at most the degree
 use Rattle.std.specs.Prelude.{ℕ, zero, suc, ◌+◌, ◌-◌, ◌≤◌, ◌<◌, ◌≡◌, refl, ◌≢◌, ◌↔◌, Bool, true, false, not, cond, T, length, ℤ, pos, neg_ℤ, nat_abs, ◌+ℤ◌, ◌-ℤ◌, ◌*ℤ◌}
-use Rattle.std.proofs.Common.{zero-le, sym, ◌∙◌, ap, ap₂, subst, ⊎_elim, not-suc-le-zero, zero-lt-suc, zero-add, arith, T_not}
+use Rattle.std.proofs.Common.{zero-le, sym, ◌∙◌, ap, ap₂, not-suc-le-zero, zero-lt-suc, zero-add, arith, T_not}
 use mathlib.Core.List.{List, [], ◌∷◌, Mem, Nodup, mem-cons_self, mem-cons_of_mem, Pairwise-cons}
 use Rattle.std.proofs.Math.Dec.{not_T}
-use Rattle.std.proofs.Math.IntN.{*ℤ-zero, zero-*ℤ, +ℤ_invr, ℤ_discrete}
+use Rattle.std.proofs.Math.IntN.{*ℤ-zero, zero-*ℤ, +ℤ_invr}
 use Rattle.algebra.specs.Integers.{ringℤ, *ℤ-assoc, one-*ℤ, *ℤ-nonzero, -ℤ-zero}
 use Rattle.algebra.specs.Polynomials.{Polynomial, eval, is_zero_of, is_zero_ℤ, degree, add, mul, negate, quotient, eval_add, eval_mul}
 use Rattle.algebra.specs.Polynomials.{eval-negate, eval-is_zero, is_zero-cons, is_zero_ℤ-iff, is_zero_ℤ-not-iff}
-use Rattle.algebra.specs.Coefficients.{degree-lt-length, mul-nonzero, degree-mul}
+use Rattle.algebra.specs.Coefficients.{degree-lt-length, mul-nonzero}
 use Rattle.algebra.specs.Vanishing.{factor-root, quotient-nonzero, degree-quotient, zero-everywhere}
 
 abbrev pub linear : ℤ → Polynomial

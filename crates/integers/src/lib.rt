@@ -1,6 +1,8 @@
 // Whole numbers and signed integers as the elimination uses them: the greatest common divisor, sign and size,
 // negation, division toward zero and the test of a coefficient's range. Each contract gives the result by an
 // equation with a definition of `algebra`, `rules` or the kit; an i64 is a ℤ there and a u64 a ℕ.
+#![tactic(auto)]
+
 ghost use Rattle.std.specs.Prelude.{◌≡◌, ◌^◌, ◌<◌, pos, neg_ℤ, nat_abs};
 ghost use Rattle.std.specs.Int.Signed.{lt_z, quot_z, rem_z};
 ghost use Rattle.algebra.specs.Gcd as Gcd;

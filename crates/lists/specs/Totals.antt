@@ -7,8 +7,8 @@
 --   total-one-more, total_at_most   the total where one number is raised by 1
 --   get_or-total      no number is above the total
 --   total-next, total-front         the total of the first numbers, one by one
-use Rattle.std.specs.Prelude.{ℕ, zero, suc, ◌+◌, ◌≤◌, ◌<◌, ◌≡◌, refl, List, [], ◌∷◌, length, take, get_or, set}
-use Rattle.std.proofs.Common.{zero-le, arith, ap}
+use Rattle.std.specs.Prelude.{ℕ, zero, suc, ◌+◌, ◌≤◌, ◌<◌, ◌≡◌, List, [], ◌∷◌, length, take, get_or, set}
+use Rattle.std.proofs.Common.{zero-le, arith}
 
 unfoldable pub total : List ℕ → ℕ
 total [] = 0

@@ -6,11 +6,11 @@
 --   Tally, by_client      accepted and refused sheets of each client (SCOPE 5.12)
 --   batch_output bytes    the whole output for a whole input
 use Prim.Native.Nat.{ℕ, zero, suc, pred}
-use Rattle.std.specs.Prelude.{Bool, true, false, cond, leb, length, take, drop, get_or, set, replicate, ℤ, pos, nat_abs}
+use Rattle.std.specs.Prelude.{cond, leb, length, take, drop, get_or, set, replicate, ℤ, pos, nat_abs}
 use mathlib.Core.List.{List, [], ◌∷◌, ◌++◌, map}
 use Rattle.algebra.specs.Sums.{count_from}
 use Rattle.rules.specs.Stores.{with_equations_of}
-use Rattle.rules.specs.Elimination.{State, Outcome, going, done, refused, rank, leading_run_of, never_number}
+use Rattle.rules.specs.Elimination.{Outcome, going, done, refused, rank, leading_run_of, never_number}
 use Rattle.rules.specs.Numbers.{space, newline, Read, got, fault, field, between, lines}
 use Rattle.rules.specs.Sheets.{Sheet, always, read_sheet_of, write_sheet_of}
 

@@ -12,7 +12,7 @@
 --   primitive r           r divided by the content of all its coefficients
 --   shift_up r             every block moved up by one and n + 1 for n
 --   mirror_row_of D r         block -s for s and -n for n, D + 1 blocks being in use
-use Rattle.std.specs.Prelude.{ℕ, zero, suc, Bool, false, ◌&&◌, not, cond, eqb, take, drop, get_or, ℤ, pos, neg_ℤ}
+use Rattle.std.specs.Prelude.{ℕ, zero, suc, Bool, ◌&&◌, not, cond, eqb, take, drop, get_or, ℤ, pos, neg_ℤ}
 use mathlib.Core.List.{List, [], ◌∷◌, ◌++◌, map, reverse, tail, flatten, zip_with}
 use Rattle.std.proofs.Math.Option
 use Rattle.std.proofs.Math.Option.{Option, none, some}

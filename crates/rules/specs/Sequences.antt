@@ -6,7 +6,7 @@
 --   Satisfies l rows relations z   z satisfies every equation and every relation
 --   Same m z y n            z and y are equal at index n, at the columns of the system
 --   Dependent l rows        a nonzero combination of shifted equations vanishes
-use Rattle.std.specs.Prelude.{ℕ, zero, suc, ◌+◌, ◌*◌, ◌≤◌, ◌<◌, ◌≡◌, not, List, [], ◌∷◌, ◌++◌, map, T, get_or, length, ℤ, pos, negsuc, nat_abs, ◌+ℤ◌, ◌-ℤ◌, ◌*ℤ◌}
+use Rattle.std.specs.Prelude.{ℕ, suc, ◌+◌, ◌≤◌, ◌<◌, ◌≡◌, not, List, [], ◌∷◌, map, T, get_or, length, ℤ, pos, negsuc, nat_abs, ◌+ℤ◌, ◌-ℤ◌, ◌*ℤ◌}
 use Rattle.std.proofs.Math.IntN.{pred_ℤ}
 use Rattle.algebra.specs.Sums.{count_from}
 use Rattle.algebra.specs.Polynomials.{Polynomial, eval, is_zero_of, add, mul, shift_by}

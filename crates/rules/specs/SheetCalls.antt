@@ -3,7 +3,7 @@
 -- Main definitions
 --   read_call bytes ..    a sheet read into lent stores
 --   write_call ..         a system and its column order written into a lent byte store
-use Rattle.std.specs.Prelude.{ℕ, zero, suc, ◌-◌, Bool, true, false, ◌&&◌, ◌||◌, not, cond, List, [], ◌∷◌, leb, eqb, length, take, drop, replicate, ℤ, pos}
+use Rattle.std.specs.Prelude.{ℕ, zero, suc, Bool, true, ◌&&◌, not, cond, List, [], ◌∷◌, leb, eqb, length, drop, replicate, ℤ, pos}
 use Rattle.rules.specs.Limits.{column_count}
 use Rattle.lists.specs.Tests.{every}
 use Rattle.rules.specs.Stores.{Sizes, rows_of, relations_of, row_store_of, relation_store_of, sizes_right_of, count_right, lengths_right_of}

@@ -5,7 +5,7 @@
 --   sides_of sheet      its right sides, those of the equations first
 --   read_sheet_of bytes    the sheet, or the number of its first fault in byte order (SCOPE 4.37)
 --   write_sheet_of sheet   its bytes (SCOPE 4.52)
-use Rattle.std.specs.Prelude.{ℕ, zero, suc, ◌+◌, ◌*◌, pred, Bool, true, false, ◌&&◌, ◌||◌, not, cond, leb, ltb, eqb, length, get_or, set, replicate, ℤ, pos, neg_ℤ, nat_abs, ◌-ℤ◌}
+use Rattle.std.specs.Prelude.{ℕ, zero, suc, ◌+◌, ◌*◌, pred, Bool, true, false, ◌&&◌, ◌||◌, not, cond, eqb, length, get_or, set, replicate, ℤ, pos, neg_ℤ, nat_abs, ◌-ℤ◌}
 use mathlib.Core.List.{List, [], ◌∷◌, ◌++◌, map, flatten, zip_with}
 use Rattle.std.proofs.Math.IntN.{pred_ℤ}
 use Rattle.std.specs.Int.Signed.{le_z, lt_z}

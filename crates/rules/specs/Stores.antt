@@ -11,7 +11,7 @@
 --   sizes_right_of, lengths_right_of, numbers_right_of   the checks for refusals 2, 1 and 5
 --   check_stores_of              their order
 --   Shaped, Valid            rows as a store holds them; the systems that the checks let through
-use Rattle.std.specs.Prelude.{ℕ, suc, ◌+◌, ◌*◌, ◌-◌, ◌≡◌, Bool, ◌&&◌, cond, T, leb, length, take, drop, get_or, replicate, ℤ, pos, neg_ℤ, nat_abs, ◌-ℤ◌}
+use Rattle.std.specs.Prelude.{ℕ, suc, ◌*◌, ◌-◌, ◌≡◌, Bool, ◌&&◌, cond, T, leb, length, take, drop, get_or, replicate, ℤ, pos, neg_ℤ, nat_abs, ◌-ℤ◌}
 use mathlib.Core.List.{List, ◌∷◌, ◌++◌, map, flatten}
 use Rattle.std.specs.Int.Signed.{le_z}
 use Rattle.algebra.specs.Polynomials.{is_zero_of}

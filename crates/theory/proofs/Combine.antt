@@ -6,7 +6,7 @@
 --                           g(n) is not 0 (where it is, `combine-root-at`)
 --   combine-satisfied       the same sequences satisfy the list, the relations at the roots of g being added
 --   combine-dependent       the list is dependent exactly if it was
-use Rattle.std.specs.Prelude.{◌≡◌, ◌≢◌, ◌↔◌, ◌⊎◌, ℕ, ◌+◌, ◌<◌, not, T, length, get_or, set, ℤ, nat_abs, ◌*ℤ◌}
+use Rattle.std.specs.Prelude.{◌≡◌, ◌≢◌, ◌↔◌, ℕ, ◌<◌, not, T, length, get_or, set, ℤ, nat_abs, ◌*ℤ◌}
 use Rattle.std.proofs.Math.Path.{sym, ap₂}
 use Rattle.std.proofs.Common.{◌∙◌, ap, subst, ⊎_elim, ne_of_gt, length-set, get_or-set_same, get_or-set_other, lt-length-set}
 use mathlib.Core.List.{List, ◌++◌}

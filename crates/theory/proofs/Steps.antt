@@ -9,7 +9,6 @@ use Rattle.std.proofs.Math.Path.{refl}
 use Rattle.std.proofs.Common.{sym, ◌∙◌, subst, ap₂, inl, inr, le_refl, le_trans, le_of_eq, arith, leb→le}
 use Rattle.std.proofs.Math.Bool.{true}
 use mathlib.Core.List.{List, [], map}
-use Rattle.std.proofs.Math.Option
 use Rattle.std.proofs.Math.Option.{Option, none, some}
 use Rattle.std.proofs.Math.ListN.{length}
 use Rattle.std.proofs.lemmas.List.{length-map}

@@ -13,7 +13,7 @@
 --   combine-unused          unused places stay zero
 --   combine-shaped, combined_row-shaped   the shape
 -- The triangular form of the rows before it stays: `replace-pivots`.
-use Rattle.std.specs.Prelude.{◌≡◌, ◌≢◌, ◌⊎◌, ℕ, suc, ◌+◌, ◌≤◌, ◌<◌, max, not, T, length, get_or, set, ℤ, ◌*ℤ◌, ◌-ℤ◌}
+use Rattle.std.specs.Prelude.{◌≡◌, ◌⊎◌, ℕ, suc, ◌+◌, ◌≤◌, ◌<◌, max, not, T, length, get_or, set, ℤ, ◌*ℤ◌, ◌-ℤ◌}
 use Rattle.std.proofs.Math.Path.{sym, ap₂}
 use Rattle.std.proofs.Common.{◌∙◌, ap, subst, inl, inr, le_refl, le_trans, arith}
 use Rattle.std.proofs.Math.Nat.{suc_inj}

@@ -6,8 +6,7 @@
 -- Main definitions
 --   EquationFrom, RelationFrom   an equation holds at every n from an index on; a relation holds if its n0 is not below an index
 --   SatisfiesFrom l j k rows relations z   every equation from j on, and every relation with n0 from k on
-use Rattle.std.specs.Prelude.{◌≡◌, ◌≤◌, ℤ, ◌≤ℤ◌}
-use mathlib.Core.Logic.Iff
+use Rattle.std.specs.Prelude.{◌≡◌, ℤ, ◌≤ℤ◌}
 use mathlib.Core.List.{List}
 use Rattle.std.proofs.Math.IntN.{pos}
 use Rattle.lists.specs.Everywhere.{All}

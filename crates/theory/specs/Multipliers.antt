@@ -31,7 +31,7 @@ use Rattle.rules.specs.Limits.{small, bound}
 use Rattle.lists.specs.Tests.{every, T-&&}
 use Rattle.rules.specs.Elimination.{Multipliers, turn_signs_of, ratio, multipliers}
 use Rattle.rules.specs.CommonRoots.{Entries, both_small_of, reduced}
-use Rattle.theory.specs.Reduced.{Divides, reduced-divides, reduced-nonzero, reduced-small, length-reduced, reduced-listed, LeftOut}
+use Rattle.theory.specs.Reduced.{reduced-divides, reduced-nonzero, reduced-small, length-reduced, reduced-listed, LeftOut}
 
 -- ---- the signs
 

@@ -14,7 +14,7 @@
 --   reduced-times      or else both are divided by n - r as often as the smaller of the two multiplicities says
 --   reduced-listed     a relation at a common root is listed only there, or where the root occurs more often in the pivot's entry
 use Prim.Native.Nat.{ℕ, zero, suc, min, ◌+◌, ◌≤◌, ◌<◌}
-use Rattle.std.specs.Prelude.{◌≡◌, refl, ◌↔◌, ◌≢◌, ◌⊎◌, Bool, ◌&&◌, not, cond, T, length, ℤ, pos, neg_ℤ, ◌+ℤ◌, ◌-ℤ◌, ◌*ℤ◌}
+use Rattle.std.specs.Prelude.{◌≡◌, refl, ◌↔◌, ◌≢◌, ◌⊎◌, Bool, ◌&&◌, not, cond, T, length, ℤ, pos, ◌+ℤ◌, ◌-ℤ◌, ◌*ℤ◌}
 use Rattle.std.proofs.Common.{sym, ◌∙◌, ap, subst, inl, inr, ⊎_elim, not-suc-le-zero, le_refl, arith, T_not}
 use Rattle.std.proofs.Math.Bool.{true, false}
 use mathlib.Core.List.Memᴰ
@@ -22,15 +22,14 @@ use mathlib.Core.List.{List, [], ◌∷◌, Memᴰ}
 use Rattle.std.proofs.Math.Dec.{not_T}
 use Rattle.std.proofs.Math.IntN.{*ℤ-zero, zero-*ℤ, +ℤ_invr, ℤ_discrete}
 use Rattle.algebra.specs.Integers.{ringℤ, *ℤ-assoc}
-use Rattle.algebra.specs.Polynomials.{Polynomial, eval, is_zero_of, is_zero_ℤ, degree, mul, quotient, eval_mul, eval-is_zero, is_zero_ℤ-iff, is_zero-cons}
+use Rattle.algebra.specs.Polynomials.{Polynomial, eval, is_zero_of, is_zero_ℤ, degree, mul, quotient, eval_mul, eval-is_zero, is_zero_ℤ-iff}
 use Rattle.algebra.specs.Coefficients.{degree-lt-length, mul-nonzero}
-use Rattle.algebra.specs.Vanishing.{factor, factor-root, quotient-length, quotient-nonzero, degree-quotient, zero-everywhere}
+use Rattle.algebra.specs.Vanishing.{factor-root, quotient-length, quotient-nonzero, degree-quotient, zero-everywhere}
 use Rattle.algebra.specs.Roots.{roots, roots-complete, place}
 use Rattle.algebra.specs.Multiplicity.{linear, linear-nonzero, eval-linear, multiplicity, multiplicity-occurs, occurs-none, occurs-same}
 use Rattle.algebra.specs.Multiplicity.{occurs-mul, occurs-unique, multiplicity-root}
-use Rattle.lists.specs.Sifted.{keep, mem-keep}
-use Rattle.lists.specs.Tests.{every, T-&&}
-use Rattle.rules.specs.Limits.{small}
+use Rattle.lists.specs.Sifted.{mem-keep}
+use Rattle.lists.specs.Tests.{T-&&}
 use Rattle.rules.specs.CommonRoots.{Entries, both_vanish, both_small_of, quotients, divisible, divide_at, divide_each, common_roots_of, reduced}
 
 -- p is n - r times the quotient exactly if p vanishes at r.

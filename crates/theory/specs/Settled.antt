@@ -23,7 +23,6 @@ use Rattle.rules.specs.Elimination.{mirror_state, diagonal_place}
 use Rattle.rules.specs.Stores.{Sizes, span}
 use Rattle.theory.specs.Steps.{current, Chain}
 use Rattle.theory.specs.LimitsKept.{ValidRows}
-use Rattle.theory.specs.Agreement.{every-column}
 use Rattle.theory.specs.Report.{NonzeroDiagonal, nonzero-diagonal}
 use Rattle.theory.specs.Mirror.{mirror_sizes, Reaches, mirror-last_entry}
 

@@ -21,9 +21,9 @@ use Rattle.std.specs.Prelude.{ℕ, zero, suc, ◌≤◌, ◌<◌, ◌≡◌, ◌
 use Rattle.std.proofs.Math.Path.{refl}
 use Rattle.std.proofs.Common.{sym, ◌∙◌, ap, subst, inl, inr, zero-lt-suc, not-suc-le-zero, arith, ltb→lt, nltb→le, length-set, get_or-set_same}
 use Rattle.std.proofs.Math.Bool.{true}
-use mathlib.Core.List.{List, [], ◌∷◌, ◌++◌, map, append_assoc, append-nil}
+use mathlib.Core.List.{List, [], ◌∷◌, ◌++◌, append_assoc, append-nil}
 use Rattle.std.proofs.Math.Option
-use Rattle.std.proofs.Math.Option.{Option, none, some, map-eq-some_iff, map-eq-none_iff, some-injective, none-ne-some, some-ne-none}
+use Rattle.std.proofs.Math.Option.{none, some, map-eq-some_iff, map-eq-none_iff, some-injective, none-ne-some, some-ne-none}
 use Rattle.std.proofs.Math.Nat.{suc-le-suc_iff}
 use Rattle.std.proofs.Math.ListN.{length}
 use Rattle.algebra.specs.Polynomials.{Polynomial, is_zero_of}

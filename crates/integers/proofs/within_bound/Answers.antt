@@ -1,7 +1,6 @@
 -- `integers::within_bound` meets its contract. The two tests, from below and from above, are one test of the size.
 -- Assumes nothing.
 use mathlib.Core.Path.{◌∙◌}
-use borrow.Author.Rules.{rules}
 use mir.Facts.{to_z-of_z}
 use Rattle.rules.specs.Limits.{small}
 use Rattle.integers.specs.Ranges.{size-not-below, size_below}

@@ -1,13 +1,12 @@
 -- `polynomials::content::all_zero` meets its contract: the loop joins the bits of the coefficients, read back from the integer they make.
 -- Assumes nothing.
-use mathlib.Core.Path.{◌≡◌, refl, sym, ◌∙◌, ap}
+use mathlib.Core.Path.{◌≡◌, sym, ◌∙◌, ap}
 use mathlib.Core.Bool.{◌&&◌, and-true}
-use Prim.Native.Nat.{◌≤◌, ◌-◌}
 use native.Mathlib.Omega.{arith}
-use borrow.Author.Rules.{rules, sfits_of}
+use borrow.Author.Rules.{sfits_of}
 use lib.Dec.{eqb}
 use lib.IntN.{pos}
-use lib.ListN.{length, get_or, drop, drop_of_length-le}
+use lib.ListN.{get_or, drop, drop_of_length-le}
 use mir.Syntax.{w64}
 use mir.Val.{SFits}
 use mir.Facts.{of_z-to_z, Fits-or, Fits-of_z}
@@ -26,7 +25,7 @@ loop-i-preserved c =
     let coefficient : SFits w64 (get_or c.args.p.now c.loop-i.i (pos 0)) = sfits_of c.joined-1.given in (
       omega arith,
       rw (of_z-to_z (Fits-or c.loop-i.auto.joined-fits (Fits-of_z coefficient)))
-      (now-zero at ∙ join-next c.loop-i.joined-bits c.args.p.now c.loop-i.i c.loop-i-test.true coefficient),
+          (now-zero at ∙ join-next c.loop-i.joined-bits c.args.p.now c.loop-i.i c.loop-i-test.true coefficient),
     )
 
 pub returns : goal.returns

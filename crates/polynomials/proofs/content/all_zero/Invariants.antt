@@ -1,15 +1,12 @@
 -- `polynomials::content::all_zero` meets its contract. The loop's invariant: p is zero exactly if the joined bits and the coefficients
 -- from i on are.
 -- Assumes nothing.
-use mathlib.Core.Path.{◌≡◌, refl, sym, ◌∙◌, ap}
-use mathlib.Core.Bool.{◌&&◌, and-true}
+use mathlib.Core.Path.{◌≡◌}
+use mathlib.Core.Bool.{◌&&◌}
 use Prim.Native.Nat.{◌≤◌, ◌-◌}
-use native.Mathlib.Omega.{arith}
-use borrow.Author.Rules.{rules, sfits_of}
 use lib.Dec.{eqb}
-use lib.ListN.{length, drop, drop_of_length-le}
+use lib.ListN.{length, drop}
 use Rattle.algebra.specs.Polynomials.{is_zero_of}
-use Rattle.polynomials.specs.Content.{join-next}
 use mir.Val.{of_z}
 use mir.Syntax.{w64}
 use Rattle.polynomials.proofs.content.all_zero.Given as goal

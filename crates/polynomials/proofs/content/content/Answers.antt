@@ -1,7 +1,6 @@
 -- `polynomials::content::content` meets its contract.
 -- Assumes nothing.
 use mathlib.Core.Path.{◌∙◌}
-use borrow.Author.Rules.{rules}
 use Rattle.algebra.specs.Gcd.{content, zero-gcd}
 use Rattle.polynomials.proofs.content.content.Goals as goal
 

@@ -1,15 +1,10 @@
 -- `polynomials::content::content_with` meets its contract. The loop's invariant: the result is the greatest common divisor of d and of
 -- the content of the coefficients from i on.
 -- Assumes nothing.
-use mathlib.Core.Path.{◌≡◌, refl, sym, ◌∙◌, ap}
-use mathlib.Core.List.{List}
-use Prim.Native.Nat.{ℕ, ◌+◌, ◌≤◌, ◌-◌}
-use native.Mathlib.Omega.{arith}
-use borrow.Author.Rules.{rules}
-use lib.IntN.{ℤ, pos, nat_abs}
-use lib.ListN.{get_or, drop}
-use Rattle.algebra.specs.Gcd.{gcd, content, content-zero, gcd-zero}
-use Rattle.polynomials.specs.Content.{read_back, content-next, one-gcd}
+use mathlib.Core.Path.{◌≡◌}
+use Prim.Native.Nat.{◌≤◌, ◌-◌}
+use lib.ListN.{drop}
+use Rattle.algebra.specs.Gcd.{gcd, content}
 use Rattle.polynomials.proofs.content.content_with.Given as goal
 
 abbrev pub invariant-loop-i : goal.invariant-loop-i

@@ -3,19 +3,18 @@
 -- Assumes nothing.
 use mathlib.Core.Path.{◌≡◌, ◌∙◌}
 use mathlib.Core.List.{List}
-use Prim.Native.Nat.{ℕ, ◌-◌}
+use Prim.Native.Nat.{ℕ}
 use native.Mathlib.Omega.{arith}
-use borrow.Author.Rules.{rules}
 use lib.Dec.{T}
 use lib.IntN.{ℤ, pos, nat_abs}
-use lib.ListN.{length, get_or, drop}
+use lib.ListN.{get_or}
 use lib.Signed.{lt_z}
 use mir.Syntax.{w64}
 use mir.Val.{of_z, to_z}
 use mir.Facts.{to_z-of_z}
-use Rattle.algebra.specs.Gcd.{divide_by, length-divide_by}
+use Rattle.algebra.specs.Gcd.{length-divide_by}
 use Rattle.polynomials.specs.Content.{read_back, positive, quotient-stored}
-use Rattle.lists.specs.Taken.{Overwritten, overwritten-next, overwritten-all, suffix-next, suffix-first}
+use Rattle.lists.specs.Taken.{overwritten-next, overwritten-all, suffix-next, suffix-first}
 use Rattle.polynomials.proofs.content.divide_in_place.Goals as goal
 use Rattle.polynomials.proofs.content.divide_in_place.Goals.{After-quotient-arg-1}
 

@@ -1,10 +1,9 @@
 -- `polynomials::content::is_zero` meets its contract. The loop's invariant: the coefficients from i on tell whether p is zero.
 -- Assumes nothing.
-use mathlib.Core.Path.{◌≡◌, refl, sym, ◌∙◌, ap}
-use Prim.Native.Nat.{◌≤◌, ◌-◌}
+use mathlib.Core.Path.{refl, sym, ◌∙◌, ap}
 use native.Mathlib.Omega.{arith}
-use borrow.Author.Rules.{rules, sfits_of}
-use lib.ListN.{length, drop, drop_of_length-le}
+use borrow.Author.Rules.{sfits_of}
+use lib.ListN.{drop_of_length-le}
 use Rattle.algebra.specs.Polynomials.{is_zero_of}
 use Rattle.polynomials.specs.Content.{zero_bits, is_zero-false, nonzero-bits, skip-zero}
 use Rattle.polynomials.proofs.content.is_zero.Goals as goal

@@ -1,12 +1,9 @@
 -- `polynomials::content::is_zero` meets its contract. The loop's invariant: the coefficients from i on tell whether p is zero.
 -- Assumes nothing.
-use mathlib.Core.Path.{◌≡◌, refl, sym, ◌∙◌, ap}
+use mathlib.Core.Path.{◌≡◌}
 use Prim.Native.Nat.{◌≤◌, ◌-◌}
-use native.Mathlib.Omega.{arith}
-use borrow.Author.Rules.{rules, sfits_of}
-use lib.ListN.{length, drop, drop_of_length-le}
+use lib.ListN.{length, drop}
 use Rattle.algebra.specs.Polynomials.{is_zero_of}
-use Rattle.polynomials.specs.Content.{zero_bits, is_zero-false, nonzero-bits, skip-zero}
 use Rattle.polynomials.proofs.content.is_zero.Given as goal
 
 abbrev pub invariant-loop-i : goal.invariant-loop-i

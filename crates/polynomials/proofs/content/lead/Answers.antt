@@ -1,7 +1,6 @@
 -- `polynomials::content::lead` meets its contract. The highest nonzero coefficient stands at the degree; without coefficients it is 0.
 -- Assumes nothing.
 use mathlib.Core.Path.{sym, ◌∙◌, ap}
-use borrow.Author.Rules.{rules}
 use Rattle.algebra.specs.Polynomials.{coeff}
 use Rattle.algebra.specs.Coefficients.{coeff-degree, coeff-past-length}
 use Rattle.polynomials.specs.Content.{read_back}

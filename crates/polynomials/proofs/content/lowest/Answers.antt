@@ -1,11 +1,11 @@
 -- `polynomials::content::lowest` meets its contract. The loop's invariant: the coefficients from i on have the lowest nonzero one.
 -- Assumes nothing.
-use mathlib.Core.Path.{◌≡◌, refl, sym, ◌∙◌, ap}
-use Prim.Native.Nat.{◌+◌, ◌≤◌, ◌-◌}
+use mathlib.Core.Path.{refl, sym, ◌∙◌, ap}
+use Prim.Native.Nat.{◌+◌}
 use native.Mathlib.Omega.{arith}
-use borrow.Author.Rules.{rules, sfits_of}
+use borrow.Author.Rules.{sfits_of}
 use lib.IntN.{pos}
-use lib.ListN.{length, get_or, drop, drop_of_length-le}
+use lib.ListN.{get_or, drop, drop_of_length-le}
 use Rattle.algebra.specs.Polynomials.{lowest}
 use Rattle.polynomials.specs.Content.{read_back, zero_bits, nonzero-bits, skip-zero, lowest-first}
 use Rattle.lists.specs.Taken.{drop-next}

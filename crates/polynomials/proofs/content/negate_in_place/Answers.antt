@@ -3,18 +3,16 @@
 -- Assumes nothing.
 use mathlib.Core.Path.{◌≡◌, sym, ◌∙◌, ap}
 use mathlib.Core.List.{List}
-use Prim.Native.Nat.{ℕ, ◌-◌}
+use Prim.Native.Nat.{ℕ}
 use native.Mathlib.Omega.{arith}
-use borrow.Author.Rules.{rules}
 use lib.IntN.{ℤ, pos, neg_ℤ}
-use lib.ListN.{get_or, drop}
+use lib.ListN.{get_or}
 use mir.Syntax.{w64}
 use mir.Val.{of_z, to_z}
 use Rattle.algebra.specs.Polynomials.{coeff, negate, length-negate}
 use Rattle.algebra.specs.Coefficients.{coeff-negate}
 use Rattle.polynomials.specs.Content.{read_back}
-use Rattle.lists.specs.Taken.{Overwritten, overwritten-next, overwritten-all, suffix-next, suffix-first}
-use Rattle.rules.specs.Limits.{coefficient_count}
+use Rattle.lists.specs.Taken.{overwritten-next, overwritten-all, suffix-next, suffix-first}
 use Rattle.polynomials.proofs.content.negate_in_place.Goals as goal
 use Rattle.polynomials.proofs.content.negate_in_place.Goals.{After-negated, After-negated-arg-1}
 

@@ -1,19 +1,11 @@
 -- `polynomials::content::negate_in_place` meets its contract. The loop's invariant: the first i coefficients have the other sign and the
 -- others are as they were.
 -- Assumes nothing.
-use mathlib.Core.Path.{◌≡◌, sym, ◌∙◌, ap}
-use mathlib.Core.List.{List}
-use Prim.Native.Nat.{ℕ, ◌-◌}
-use native.Mathlib.Omega.{arith}
-use borrow.Author.Rules.{rules}
-use lib.IntN.{ℤ, pos, neg_ℤ}
-use lib.ListN.{get_or, drop}
-use mir.Syntax.{w64}
-use mir.Val.{of_z, to_z}
-use Rattle.algebra.specs.Polynomials.{coeff, negate, length-negate}
-use Rattle.algebra.specs.Coefficients.{coeff-negate}
-use Rattle.polynomials.specs.Content.{read_back}
-use Rattle.lists.specs.Taken.{Overwritten, overwritten-next, overwritten-all, suffix-next, suffix-first}
+use mathlib.Core.Path.{◌≡◌}
+use Prim.Native.Nat.{◌-◌}
+use lib.ListN.{drop}
+use Rattle.algebra.specs.Polynomials.{negate}
+use Rattle.lists.specs.Taken.{Overwritten}
 use Rattle.rules.specs.Limits.{coefficient_count}
 use Rattle.polynomials.proofs.content.negate_in_place.Given as goal
 

@@ -1,12 +1,9 @@
 -- `polynomials::content::put_copied` meets its contract. The loop's invariant: the first i coefficients of the place are those of p.
 -- Assumes nothing.
-use Prim.Native.Nat.{◌-◌}
 use native.Mathlib.Omega.{arith}
-use borrow.Author.Rules.{rules}
 use lib.IntN.{pos}
-use Rattle.lists.specs.Taken.{Overwritten, overwritten-next, overwritten-all}
+use Rattle.lists.specs.Taken.{overwritten-next, overwritten-all}
 use Rattle.polynomials.specs.Content.{read_back}
-use Rattle.rules.specs.Limits.{coefficient_count}
 use Rattle.polynomials.proofs.content.put_copied.Goals as goal
 
 pub loop-i-preserved : goal.loop-i-preserved

@@ -4,7 +4,6 @@
 use mathlib.Core.Path.{◌≡◌, sym, ◌∙◌, ap, ap₂, subst}
 use mathlib.Core.List.{List, ◌++◌}
 use Prim.Native.Nat.{ℕ, ◌^◌, ◌≤◌, ◌<◌}
-use borrow.Author.Rules.{rules}
 use lib.Dec.{T, lt→ltb, lit<}
 use lib.IntN.{ℤ, pos, nat_abs}
 use lib.ListN.{length}
@@ -78,7 +77,7 @@ pub turn_signs-requires : goal.turn_signs-requires
 turn_signs-requires c =
     let q = c.before.before.before in
     let e = q.before.before.before.before.before in
-    record { g_len = subst Negatable (sym (p-is q.before.before.before)) (quotients-negatable (d e) (a e) e.requires.a_len.0 e.requires.a_len.1); h_len = subst Negatable (sym (q-is q)) (quotients-negatable (d e) (b e) e.requires.b_len.0 e.requires.b_len.1); }
+    record { g_len = subst Negatable (sym (p-is q.before.before.before)) (quotients-negatable (d e) (a e) e.requires.a_len.0 e.requires.a_len.1); h_len = subst Negatable (sym (q-is q)) (quotients-negatable (d e) (b e) e.requires.b_len.0 e.requires.b_len.1) }
 
 pub returns : goal.returns
 unfolding ratio
@@ -86,4 +85,4 @@ returns c =
     let t = c.before.before in
     let q = t.before.before.before.before in
     let signed = ap₂ (λ x y. turn_signs_of x (negate y)) (p-is q.before.before.before) (q-is q) in
-    record { g_after = t.turn_signs.ensures.g_after ∙ ap (λ m. m.g) signed; h_after = t.turn_signs.ensures.h_after ∙ ap (λ m. m.h) signed; }
+    record { g_after = t.turn_signs.ensures.g_after ∙ ap (λ m. m.g) signed; h_after = t.turn_signs.ensures.h_after ∙ ap (λ m. m.h) signed }

@@ -3,7 +3,6 @@
 use mathlib.Core.Path.{◌≡◌, sym, ◌∙◌, ap}
 use mathlib.Core.Bool.{Bool}
 use mathlib.Core.List.{List}
-use borrow.Author.Rules.{rules}
 use lib.IntN.{ℤ, pos}
 use lib.Signed.{lt_z}
 use mir.Syntax.{w64}
@@ -29,11 +28,11 @@ returns-then-lead-lt0 c =
     let n = c.before in
     let e = n.before.before.before in
     let turned = sym (signs-turned (g e) (negate (h e)) (sign e n.if-lead-lt0.true)) in
-    record { g_after = n.negate_in_place.ensures ∙ ap (λ m. m.g) turned; h_after = sym (negate-negate (h e)) ∙ ap (λ m. m.h) turned; }
+    record { g_after = n.negate_in_place.ensures ∙ ap (λ m. m.g) turned; h_after = sym (negate-negate (h e)) ∙ ap (λ m. m.h) turned }
 
 pub returns-else-lead-lt0 : goal.returns-else-lead-lt0
 returns-else-lead-lt0 c =
     let n = c.before in
     let e = n.before.before.before in
     let kept = sym (signs-kept (g e) (negate (h e)) (sign e n.if-lead-lt0.false)) in
-    record { g_after = ap (λ m. m.g) kept; h_after = n.negate_in_place-else-lead-lt0.ensures ∙ ap (λ m. m.h) kept; }
+    record { g_after = ap (λ m. m.g) kept; h_after = n.negate_in_place-else-lead-lt0.ensures ∙ ap (λ m. m.h) kept }

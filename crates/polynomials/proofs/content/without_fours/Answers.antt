@@ -1,13 +1,12 @@
 -- `polynomials::content::without_fours` meets its contract. The loop's invariant: the coefficients from n on are zero.
 -- Assumes nothing.
-use mathlib.Core.Path.{◌≡◌, sym, ◌∙◌, subst}
-use Prim.Native.Nat.{◌≤◌, ◌-◌}
+use mathlib.Core.Path.{sym, ◌∙◌, subst}
+use Prim.Native.Nat.{◌-◌}
 use native.Mathlib.Nat.{le_refl}
 use native.Mathlib.Omega.{arith}
-use borrow.Author.Rules.{rules}
 use borrow.Author.Tests.{not-false}
 use lib.Dec.{T}
-use lib.ListN.{length, drop, drop_of_length-le}
+use lib.ListN.{length, drop_of_length-le}
 use Rattle.algebra.specs.Polynomials.{is_zero_of}
 use Rattle.polynomials.specs.Content.{zeros-part}
 use Rattle.polynomials.proofs.content.without_fours.Goals as goal

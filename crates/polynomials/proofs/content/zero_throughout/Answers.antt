@@ -1,7 +1,6 @@
 -- `polynomials::content::zero_throughout` meets its contract.
 -- Assumes nothing.
 use mathlib.Core.Path.{sym}
-use borrow.Author.Rules.{rules}
 use Rattle.polynomials.specs.Content.{is_zero-false, nonzero-bits}
 use Rattle.polynomials.proofs.content.zero_throughout.Goals as goal
 

@@ -1,14 +1,14 @@
 -- `polynomials::shift::shifted_coefficient` meets its contract: the loop adds up the terms of the expansion of p(n + 1) at n^k; those
 -- before j = k are zero.
 -- Assumes nothing.
-use mathlib.Core.Path.{◌≡◌, sym, ◌∙◌, ap, subst}
-use Prim.Native.Nat.{ℕ, suc, ◌-◌, ◌*◌, ◌^◌, ◌≤◌}
+use mathlib.Core.Path.{◌≡◌, sym, ◌∙◌, subst}
+use Prim.Native.Nat.{ℕ, suc, ◌*◌, ◌^◌, ◌≤◌}
 use native.Mathlib.Numerals.{add-one}
 use native.Mathlib.Omega.{arith}
 use lib.Dec.{lit<}
 use lib.IntN.{ℤ, pos, nat_abs, ◌+ℤ◌, ◌*ℤ◌}
-use lib.ListN.{length, get_or}
-use borrow.Author.Rules.{rules, sfits_of}
+use lib.ListN.{get_or}
+use borrow.Author.Rules.{sfits_of}
 use mir.Syntax.{w64}
 use mir.Val.{SFits, of_z, to_z}
 use mir.Facts.{to_z-of_z}
@@ -90,7 +90,7 @@ pub loop-j-smaller : goal.loop-j-smaller
 loop-j-smaller c = omega arith
 
 pub loop-j-preserved : goal.loop-j-preserved
-loop-j-preserved c = 
+loop-j-preserved c =
     (omega arith, rw (next c) (rw add-one (to_z-of_z (sum_fits (s c) (suc (j c)) (omega arith)))))
 
 pub returns : goal.returns
@@ -100,4 +100,4 @@ returns c =
     let k = s.args.k in
     let j = c.loop-j.j in
     let value : to_z w64 c.loop-j.sum-bits ≡ coeff (shift p) k = c.loop-j.invariant.1 ∙ expansion-all p k j (omega arith) in
-    record { value = value; size = subst (λ r. nat_abs r ≤ 2 ^ coefficient_count * bound) (sym value) (shift-size p s.requires.2 s.requires.1 k); }
+    record { value = value; size = subst (λ r. nat_abs r ≤ 2 ^ coefficient_count * bound) (sym value) (shift-size p s.requires.2 s.requires.1 k) }
