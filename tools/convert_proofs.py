@@ -280,7 +280,7 @@ class Function:
                 text = text[:m.start()] + f"let {name} = {deep} in" + text[m.end() - 1:]
                 seen.add(m.start())
             else:
-                end = r"(?=\.|\)\s*(?:$|\n))" if name == "at" else r"(?![^\s(){}.;,«»])"
+                end = r"(?=\.|\)\s*(?:$|\n))" if name == "at" else r"(?![^\s(){}.;,«»]| =)"
                 rest = re.sub(rf"(?<![^\s(){{}};,«»]){re.escape(name)}{end}", base, text[m.end():])
                 text = text[:m.start()] + rest.lstrip()
         for made, base in re.findall(rf"\(({WORD}) ({WORD})\)(?:\.before)+", text):
