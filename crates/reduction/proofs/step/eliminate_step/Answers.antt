@@ -5,7 +5,6 @@ use mathlib.Core.Bool.{not}
 use mathlib.Core.List.{List}
 use Prim.Native.Nat.{ℕ, ◌+◌, ◌*◌, ◌≤◌, ◌<◌}
 use native.Mathlib.Omega.{arith}
-use borrow.Author.Rules.{rules}
 use lib.Dec.{T}
 use lib.IntN.{ℤ}
 use lib.ListN.{length}
@@ -24,11 +23,11 @@ use Rattle.reduction.specs.StoreExchange.{narrowed-exchanged, narrowed-same, nar
 use Rattle.reduction.specs.StepLaws.{met_entries, reached-after}
 use Rattle.reduction.specs.StepCases.{narrowed-ready}
 use Rattle.reduction.specs.Unused.{unused-width}
-use Rattle.reduction.proofs.step.eliminate_step.Statement.{statement}
-use Rattle.reduction.proofs.step.eliminate_step.Tie as tie
+use Rattle.reduction.proofs.step.eliminate_step.Goals as goal
+use Rattle.reduction.proofs.step.eliminate_step.Goals.{Start}
 
 -- the arguments
-module _ (c : tie.Start) where
+module _ (c : Start) where
   abbrev rows : List ℤ
   rows = c.args.rows.now
 
@@ -51,16 +50,16 @@ module _ (c : tie.Start) where
   side = side_of c.args.side
 
   ready : Ready rows relations p
-  ready = c.requires.0.0
+  ready = c.requires.ready.0
 
   inside : i < n
-  inside = c.requires.0.1
+  inside = c.requires.ready.1
 
   settled : j < i
-  settled = c.requires.0.2
+  settled = c.requires.ready.2
 
   width_is : c.args.width ≡ width (row_of (numbers_at rows i))
-  width_is = c.requires.0.3
+  width_is = c.requires.ready.3
 
   other : j < n
   other = omega (arith, inside, settled)
@@ -78,7 +77,7 @@ module _ (c : tie.Start) where
   asked r a b e u v =
       let same = sym e in (
         (subst (λ d. Ready d relations p) same (narrowed-ready side ready inside j settled), inside, settled),
-        (subst (λ d. T (not (is_zero_of (met_entries d p j)))) same c.requires.1.0, (u, v)),
+        (subst (λ d. T (not (is_zero_of (met_entries d p j)))) same c.requires.t.0, (u, v)),
       )
 
   -- the outcome, for a store that is the narrowed one
@@ -99,78 +98,55 @@ module _ (c : tie.Start) where
   second : numbers_at (exchanged_rows rows i j) j ≡ numbers_at rows i
   second = exchanged-second n rows ready.rows-within i j inside other (λ e. omega (arith, e, settled))
 
-width-at-requires : tie.Need-width-at-requires
-width-at-requires c κs =
-    let b = c.before in
-    let used = b.requires.1 in
-    (room b (j b) (other b), used.1, unused-width column_count b.args.span (ready b) (j b) (other b) used.2)
+pub width_at-other-requires : goal.width_at-other-requires
+width_at-other-requires c =
+    let b = (goal.at.width_at-other-requires c).Start in
+    (room b (j b) (other b), b.requires.t.1, unused-width column_count b.args.span (ready b) (j b) (other b) b.requires.t.2)
 
-exchange-requires : tie.Need-exchange-requires
-exchange-requires c κs =
-    let b = c.before.before.before.before in
-    ((room b (i b) (inside b), room b (j b) (other b)), (width_is b, c.before.before.width-at.ensures))
+pub exchange-requires : goal.exchange-requires
+exchange-requires c =
+    let b = (goal.at.exchange-requires c).Start in
+    record {
+      row_length_in_bounds = (room b (i b) (inside b), room b (j b) (other b));
+      width_value = (width_is b, c.width_at-other.ensures);
+    }
 
-combine-step-requires : tie.Need-combine-step-requires
-combine-step-requires c κs =
-    let b = c.before.before.before.before.before.before.before.before in
-    let call = c.before.before.before.exchange in
-    let wider = c.before.before.before.before.before.before.width-at in
-    let wide = sym (narrowed-exchanged (rows b) (i b) (j b) (omega (arith, width_is b, wider.ensures, c.before.before.before.before.before.if1.true))) in
-    asked b call.new.0 wider.result b.args.width (call.ensures ∙ wide)
+pub combine_step-requires : goal.combine_step-requires
+combine_step-requires c =
+    let b = (goal.at.combine_step-requires c).Start in
+    let call = c.exchange in
+    let wider = c.width_at-other in
+    let wide = sym (narrowed-exchanged (rows b) (i b) (j b) (omega (arith, width_is b, wider.ensures, c.if-width-other.true))) in
+    let a = asked b call.new.rows wider.result b.args.width (call.ensures ∙ wide)
     (wider.ensures ∙ ap (λ l. width (row_of l)) (sym (ap (λ d. numbers_at d (i b)) call.ensures ∙ first b)))
-    (width_is b ∙ ap (λ l. width (row_of l)) (sym (ap (λ d. numbers_at d (j b)) call.ensures ∙ second b)))
+    (width_is b ∙ ap (λ l. width (row_of l)) (sym (ap (λ d. numbers_at d (j b)) call.ensures ∙ second b))) in
+    record { ready = a.0; t = a.1.0; width_value = a.1.1 }
 
-same_length : tie.Need-same-length
-same_length c = search rules
+pub returns-then-width-other : goal.returns-then-width-other
+returns-then-width-other c =
+    let b = (goal.at.returns-then-width-other c).Start in
+    let call = c.exchange in
+    let wider = c.width_at-other in
+    let wide = sym (narrowed-exchanged (rows b) (i b) (j b) (omega (arith, width_is b, wider.ensures, c.if-width-other.true))) in
+    record {
+      reached = reached b call.new.rows c.combine_step.new.rows c.combine_step.new.relations c.combine_step.result (call.ensures ∙ wide) c.combine_step.ensures.reached;
+      done_value = c.combine_step.ensures.done_value;
+    }
 
-same-length-2 : tie.Need-same-length-2
-same-length-2 c = search rules
+pub combine_step-requires-2 : goal.combine_step-requires-2
+combine_step-requires-2 c =
+    let b = (goal.at.combine_step-requires-2 c).Start in
+    let wider = c.width_at-other in
+    let a = asked b (rows b) b.args.width wider.result
+    (sym (narrowed-same (rows b) (i b) (j b) (omega (arith, width_is b, wider.ensures, c.if-width-other.false)))) (width_is b) wider.ensures in
+    record { ready = a.0; t = a.1.0; width_value = a.1.1 }
 
-returns : tie.Need-returns
+pub returns : goal.returns
 returns c =
-    let b = c.before.before.before.before.before.before.before.before.before.before.before in
-    let call = c.before.before.before.before.before.before.exchange in
-    let wider = c.before.before.before.before.before.before.before.before.before.width-at in
-    let wide = sym (narrowed-exchanged (rows b) (i b) (j b) (omega (arith, width_is b, wider.ensures, c.before.before.before.before.before.before.before.before.if1.true))) in
-    let combine = c.before.before.combine-step in (
-      reached b call.new.0 combine.new.0 combine.new.1.0 combine.result (call.ensures ∙ wide) combine.ensures.0,
-      combine.ensures.1,
-    )
-
-combine-step-requires-2 : tie.Need-combine-step-requires-2
-combine-step-requires-2 c κs =
-    let b = c.before.before.before.before.before in
-    let wider = c.before.before.before.width-at in
-    asked b (rows b) b.args.width wider.result
-    (sym (narrowed-same (rows b) (i b) (j b) (omega (arith, width_is b, wider.ensures, c.before.before.if1.false)))) (width_is b) wider.ensures
-
-same-length-3 : tie.Need-same-length-3
-same-length-3 c = search rules
-
-same-length-4 : tie.Need-same-length-4
-same-length-4 c = search rules
-
-returns-2 : tie.Need-returns-2
-returns-2 c =
-    let b = c.before.before.before.before.before.before.before.before in
-    let wider = c.before.before.before.before.before.before.width-at in
-    let same = sym (narrowed-same (rows b) (i b) (j b) (omega (arith, width_is b, wider.ensures, c.before.before.before.before.before.if1.false))) in
-    let combine = c.before.before.combine-step2 in (
-      reached b (rows b) combine.new.0 combine.new.1.0 combine.result same combine.ensures.0,
-      combine.ensures.1,
-    )
-
-pub eliminate-step-spec : {M : Type 1} → statement M
-eliminate-step-spec =
-    tie.close
-    (tie.spec
-    width-at-requires
-    exchange-requires
-    combine-step-requires
-    same_length
-    same-length-2
-    returns
-    combine-step-requires-2
-    same-length-3
-    same-length-4
-    returns-2)
+    let b = (goal.at.returns c).Start in
+    let wider = c.width_at-other in
+    let same = sym (narrowed-same (rows b) (i b) (j b) (omega (arith, width_is b, wider.ensures, c.if-width-other.false))) in
+    record {
+      reached = reached b (rows b) c.combine_step-2.new.rows c.combine_step-2.new.relations c.combine_step-2.result same c.combine_step-2.ensures.reached;
+      done_value = c.combine_step-2.ensures.done_value;
+    }

@@ -6,7 +6,6 @@ use mathlib.Core.List.{List, ◌++◌}
 use Prim.Native.Nat.{ℕ, ◌+◌, ◌*◌, ◌≤◌, ◌<◌}
 use native.Mathlib.Nat.{le_of_eq}
 use native.Mathlib.Omega.{arith}
-use borrow.Author.Rules.{rules}
 use lib.Dec.{T}
 use lib.IntN.{ℤ}
 use lib.ListN.{length, get_or, length-append, length-replicate}
@@ -24,7 +23,7 @@ use Rattle.combinations.specs.Undivided.{RowsFit}
 use Rattle.working_rows.specs.Found.{Columns-at}
 use Rattle.working_rows.specs.declared.WorkingRow.{WorkingRow}
 use Rattle.working_rows.specs.Working.{numbers_held, Full, loaded, full-loaded, numbers-loaded}
-use Rattle.working_rows.specs.Worked.{refusal_of, numbers_of, worked_row, numbers-worked}
+use Rattle.working_rows.specs.Worked.{refusal_of, numbers_of, numbers-worked}
 use Rattle.reduction.specs.declared.step.Progress.{Progress}
 use Rattle.sides.specs.Lent.{side_of}
 use Rattle.reduction.specs.Progress.{Ready, state_of, answer_of, listed_progress}
@@ -34,8 +33,8 @@ use Rattle.reduction.specs.NewRows.{Storable, saved, row_room, combined-storable
 use Rattle.reduction.specs.StoreExchange.{numbers_at, length-numbers_at, small-numbers_at, length-entry, small-entry}
 use Rattle.reduction.specs.StepLaws.{multipliers_of, multipliers_in, new_row, multipliers-in, combine-refused, combine-reached}
 use Rattle.reduction.specs.StepLaws.{refused-reached, reached-same}
-use Rattle.reduction.proofs.step.combine_step.Statement.{statement}
-use Rattle.reduction.proofs.step.combine_step.Tie as tie
+use Rattle.reduction.proofs.step.combine_step.Goals as goal
+use Rattle.reduction.proofs.step.combine_step.Goals.{After-list_roots, After-put_multipliers_at-found, After-row_at-pivot, After-row_at-target, Start}
 
 abbrev Small : List ℤ → Type 0
 Small l = T (every small l)
@@ -47,7 +46,7 @@ listed-length : (l : List ℤ) → length l ≤ 16 → length (listed l).values 
 listed-length l h = simp (length-append, length-replicate) (omega arith)
 
 -- the arguments
-module _ (c : tie.Start) where
+module _ (c : Start) where
   abbrev rows : List ℤ
   rows = c.args.rows.now
 
@@ -70,13 +69,13 @@ module _ (c : tie.Start) where
   side = side_of c.args.side
 
   ready : Ready rows relations p
-  ready = c.requires.0.0
+  ready = c.requires.ready.0
 
   inside : i < n
-  inside = c.requires.0.1
+  inside = c.requires.ready.1
 
   settled : j < i
-  settled = c.requires.0.2
+  settled = c.requires.ready.2
 
   other : j < n
   other = omega (arith, inside, settled)
@@ -134,44 +133,44 @@ module _ (c : tie.Start) where
   storable = combined-storable x.g x.h target pivot (omega (arith, fits.0.0)) target-long
 
 -- the multipliers and their roots
-module _ (c : tie.After-put-multipliers-at) where
-  abbrev start : tie.Start
-  start = c.before.before.before.before.before.before.before
+module _ (c : After-put_multipliers_at-found) where
+  abbrev start : Start
+  start = (goal.at.After-put_multipliers_at-found c).Start
 
   -- the rows, where they stand
-  abbrev target-read : tie.After-row-at
-  target-read = c.before.before.before.before
+  abbrev target-read : After-row_at-target
+  target-read = (goal.at.After-put_multipliers_at-found c).After-row_at-target
 
-  abbrev pivot-read : tie.After-row-at2
-  pivot-read = c.before.before.before
+  abbrev pivot-read : After-row_at-pivot
+  pivot-read = (goal.at.After-put_multipliers_at-found c).After-row_at-pivot
 
-  target_is : target-read.row-at.result.now ≡ target start
-  target_is = target-read.row-at.ensures.0
+  target_is : target-read.row_at-target.result.now ≡ target start
+  target_is = target-read.row_at-target.ensures.result_value
 
-  pivot-is : pivot-read.row-at2.result.now ≡ pivot start
-  pivot-is = pivot-read.row-at2.ensures.0
+  pivot-is : pivot-read.row_at-pivot.result.now ≡ pivot start
+  pivot-is = pivot-read.row_at-pivot.ensures.result_value
 
-  multipliers-are : multipliers_of (column start) target-read.row-at.result.now pivot-read.row-at2.result.now ≡ x start
+  multipliers-are : multipliers_of (column start) target-read.row_at-target.result.now pivot-read.row_at-pivot.result.now ≡ x start
   multipliers-are = ap₂ (multipliers_of (column start)) target_is pivot-is
 
   abbrev g : List ℤ
-  g = c.put-multipliers-at.new.0
+  g = c.put_multipliers_at-found.new.g
 
   abbrev h : List ℤ
-  h = c.put-multipliers-at.new.1.0
+  h = c.put_multipliers_at-found.new.h
 
   abbrev found : RootsWith
-  found = c.put-multipliers-at.result
+  found = c.put_multipliers_at-found.result
 
   g-is : g ≡ (x start).g
-  g-is = c.put-multipliers-at.ensures.0 ∙ ap (λ y. y.g) multipliers-are
+  g-is = c.put_multipliers_at-found.ensures.g_after ∙ ap (λ y. y.g) multipliers-are
 
   h-is : h ≡ (x start).h
-  h-is = c.put-multipliers-at.ensures.1.0 ∙ ap (λ y. y.h) multipliers-are
+  h-is = c.put_multipliers_at-found.ensures.h_after ∙ ap (λ y. y.h) multipliers-are
 
   found-is : roots_alone found ≡ listed (roots (x start).g)
   found-is =
-      found-alone (x start).g (c.put-multipliers-at.ensures.1.1 ∙ ap (λ y. listed_with (roots_with_of y.g)) multipliers-are)
+      found-alone (x start).g (c.put_multipliers_at-found.ensures.value ∙ ap (λ y. listed_with (roots_with_of y.g)) multipliers-are)
 
   count-is : found.count ≡ length (roots (x start).g)
   count-is = ap (λ f. f.count) found-is
@@ -180,20 +179,20 @@ module _ (c : tie.After-put-multipliers-at) where
   held-is = held_of (roots (x start).g) found-is
 
 -- the relations
-module _ (c : tie.After-list-roots) where
-  abbrev multiplied : tie.After-put-multipliers-at
-  multiplied = c.before.before.before.before.before.before.before
+module _ (c : After-list_roots) where
+  abbrev multiplied : After-put_multipliers_at-found
+  multiplied = (goal.at.After-list_roots c).After-put_multipliers_at-found
 
-  abbrev origin : tie.Start
+  abbrev origin : Start
   origin = start multiplied
 
   abbrev after : List ℤ
-  after = c.list-roots.new.0
+  after = c.list_roots.new.relations
 
   relisted : Relisted (p origin).count (target origin) (listing (side origin) (roots (x origin).g)) (relations origin) after
   relisted =
       subst₂ (λ t l. Relisted (p origin).count t (listing (side origin) l) (relations origin) after)
-      (target_is multiplied) (held-is multiplied) c.list-roots.ensures
+      (target_is multiplied) (held-is multiplied) c.list_roots.ensures
 
   -- the row that is loaded
   abbrev row : WorkingRow
@@ -206,7 +205,7 @@ module _ (c : tie.After-list-roots) where
   row-full = full-loaded (rows origin) (i origin * row_length) (room origin (i origin) (inside origin))
 
   -- what is asked where it is combined
-  row_fits : RowsFit (g multiplied) (h multiplied) row (pivot-read multiplied).row-at2.result.now origin.args.other
+  row_fits : RowsFit (g multiplied) (h multiplied) row (pivot-read multiplied).row_at-pivot.result.now origin.args.other
   row_fits =
       let g-fits = subst Sixteen (sym (g-is multiplied)) (fits origin).0 in
       let h_fits = subst Sixteen (sym (h-is multiplied)) (fits origin).1 in record {
@@ -217,16 +216,16 @@ module _ (c : tie.After-list-roots) where
         target-full = row-full;
         target_small = subst Small (sym row-held) (target_small origin);
         target-width = refl;
-        pivot-long = (pivot-read multiplied).row-at2.ensures.1;
+        pivot-long = (pivot-read multiplied).row_at-pivot.ensures.result_len;
         pivot-small = subst Small (sym (pivot-is multiplied)) (pivot-small origin);
-        pivot-width = origin.pre.1.1.1 ∙ ap (λ l. width (row_of l)) (sym (pivot-is multiplied));
+        pivot-width = origin.requires.width_value.1 ∙ ap (λ l. width (row_of l)) (sym (pivot-is multiplied));
       }
 
   -- the new row, with the multipliers of the definition
   abbrev made : WorkingRow → Limited
   made w =
       consistent (limit_degrees (primitive (combine (g multiplied) (h multiplied) (row_of (numbers_held w))
-      (row_of (pivot-read multiplied).row-at2.result.now))))
+      (row_of (pivot-read multiplied).row_at-pivot.result.now))))
 
   made-is : made row ≡ new origin
   made-is =
@@ -235,157 +234,84 @@ module _ (c : tie.After-list-roots) where
       ∙ ap₂ (λ a b. consistent (limit_degrees (primitive (combine a b (row_of (target origin)) (row_of (pivot origin))))))
       (g-is multiplied) (h-is multiplied)
 
-mul-c : tie.Need-overflow-mul-c
-mul-c c = search rules
+pub row_at-target-requires : goal.row_at-target-requires
+row_at-target-requires c = let b = (goal.at.row_at-target-requires c).Start in room b (i b) (inside b)
 
-array-read-c : tie.Need-array-read-c
-array-read-c c = search rules
+pub row_at-pivot-requires : goal.row_at-pivot-requires
+row_at-pivot-requires c = let b = (goal.at.row_at-pivot-requires c).Start in room b (j b) (other b)
 
-mul-row-at : tie.Need-overflow-mul-row-at
-mul-row-at c = search rules
+pub put_multipliers_at-found-requires : goal.put_multipliers_at-found-requires
+put_multipliers_at-found-requires c =
+    let b = (goal.at.put_multipliers_at-found-requires c).Start in
+    record {
+      g_len = (refl, refl);
+      c_lt_column_count = (below b, omega (arith, c.row_at-target.ensures.result_len), omega (arith, c.row_at-pivot.ensures.result_len));
+      t = (subst Small (sym c.row_at-target.ensures.result_value) (target_small b), subst Small (sym c.row_at-pivot.ensures.result_value) (pivot-small b));
+      t_2 = subst₂ (NotBoth (column b)) (sym c.row_at-target.ensures.result_value) (sym c.row_at-pivot.ensures.result_value) b.requires.t;
+    }
 
-row-at-requires : tie.Need-row-at-requires
-row-at-requires c κs = let b = c.before.before in room b (i b) (inside b)
-
-mul-row-at-2 : tie.Need-overflow-mul-row-at-2
-mul-row-at-2 c = search rules
-
-row-at-requires-2 : tie.Need-row-at-requires-2
-row-at-requires-2 c κs = let b = c.before.before.before in room b (j b) (other b)
-
-slice-aggregate-put-multipliers-at : tie.Need-slice-aggregate-put-multipliers-at
-slice-aggregate-put-multipliers-at c = search rules
-
-slice-aggregate-put-multipliers-at-2 : tie.Need-slice-aggregate-put-multipliers-at-2
-slice-aggregate-put-multipliers-at-2 c = search rules
-
-put-multipliers-at-requires : tie.Need-put-multipliers-at-requires
-put-multipliers-at-requires c κs =
-    let read = c.before.before in
-    let b = read.before.before.before.before in
-    let t = read.before.row-at.ensures in
-    let q = read.row-at2.ensures in (
-      (refl, refl),
-      (
-        (below b, omega (arith, t.1), omega (arith, q.1)),
-        (
-          (subst Small (sym t.0) (target_small b), subst Small (sym q.0) (pivot-small b)),
-          subst₂ (NotBoth (column b)) (sym t.0) (sym q.0) b.requires.1.0,
-        ),
-      ),
-    )
-
-add-count : tie.Need-overflow-add-count
-add-count c =
-    let e = c.before.before.before.before in
+pub overflow_add-count : goal.overflow_add-count
+overflow_add-count c =
+    let e = (goal.at.overflow_add-count c).After-put_multipliers_at-found in
     omega (arith, few (start e), count-is e, (ready (start e)).listing.few)
 
-answer-requires : tie.Need-answer-requires
-answer-requires c κs = search rules
-
-returns : tie.Need-returns
-returns c =
-    let e = c.before.before.before.before.before.before in
+pub returns-then-count-gt16 : goal.returns-then-count-gt16
+returns-then-count-gt16 c =
+    let e = (goal.at.returns-then-count-gt16 c).After-put_multipliers_at-found in
     let b = start e in
-    let many : 16 < (p b).count + length (roots (x b).g) = omega (arith, count-is e, c.before.if1.true) in (
-      reached-same refl c.answer.ensures
+    let many : 16 < (p b).count + length (roots (x b).g) = omega (arith, count-is e, c.if-count-gt16.true) in record {
+      reached = reached-same refl c.answer.ensures
           (combine-is b ∙ combine-refused (side b) (ready b) (j b) (inside b) (settled b) (x b) many)
-          (refused-reached (ready b) 8),
-      ap (λ o. o.done) c.answer.ensures,
-    )
+          (refused-reached (ready b) 8);
+      done_value = ap (λ o. o.done) c.answer.ensures;
+    }
 
-same_length : tie.Need-same-length
-same_length c = search rules
-
-list-roots-requires : tie.Need-list-roots-requires
-list-roots-requires c κs =
-    let passed = c.before in
-    let e = passed.before.before.before.before.before in
+pub list_roots-requires : goal.list_roots-requires
+list_roots-requires c =
+    let e = (goal.at.list_roots-requires c).After-put_multipliers_at-found in
     let b = start e in
-    let t = (target-read e).row-at.ensures in
-    let row = subst Small (sym t.0) (target_small b) in
-    let values = ap (λ f. length f.values) (found-is e) ∙ listed-length (roots (x b).g) (omega (arith, few b)) in (
-      ((ready b).listing, omega (arith, passed.if1.false), values),
-      (subst Small (sym (held-is e)) (roots-small (x b).g (fits b).0.1), row, t.1),
-    )
+    let t = (target-read e).row_at-target.ensures in
+    let row = subst Small (sym t.result_value) (target_small b) in
+    let values = ap (λ f. length f.values) (found-is e) ∙ listed-length (roots (x b).g) (omega (arith, few b)) in record {
+      listing = ((ready b).listing, omega (arith, c.if-count-gt16.false), values);
+      t = (subst Small (sym (held-is e)) (roots-small (x b).g (fits b).0.1), row, t.result_len);
+    }
 
-mul-load : tie.Need-overflow-mul-load
-mul-load c = omega (arith, (ready (origin c.before)).few-settled)
+pub overflow_mul-i-2 : goal.overflow_mul-i-2
+overflow_mul-i-2 c = omega (arith, (ready (origin (goal.at.overflow_mul-i-2 c).After-list_roots)).few-settled)
 
-load-requires : tie.Need-load-requires
-load-requires c κs = let b = origin c.before in (room b (i b) (inside b), b.pre.1.1.0)
+pub load-row-requires : goal.load-row-requires
+load-row-requires c = let b = origin (goal.at.load-row-requires c).After-list_roots in (room b (i b) (inside b), b.requires.width_value.0)
 
-slice-aggregate-combined : tie.Need-slice-aggregate-combined
-slice-aggregate-combined c = search rules
-
-slice-aggregate-combined-2 : tie.Need-slice-aggregate-combined-2
-slice-aggregate-combined-2 c = search rules
-
-combined-requires : tie.Need-combined-requires
-combined-requires c κs =
-    let l = c.before.before.before.before in
+pub combined-worked-requires : goal.combined-worked-requires
+combined-worked-requires c =
+    let l = (goal.at.combined-worked-requires c).After-list_roots in
     let m = multiplied l in
-    subst (λ w. RowsFit (g m) (h m) w (pivot-read m).row-at2.result.now (origin l).args.other) (sym c.before.before.load.ensures)
+    subst (λ w. RowsFit (g m) (h m) w (pivot-read m).row_at-pivot.result.now (origin l).args.other) (sym c.load-row.ensures)
     (row_fits l)
 
-put-limited-requires : tie.Need-put-limited-requires
-put-limited-requires c κs =
-    let l = c.before.before.before.before.before.before in
+pub put_limited-requires : goal.put_limited-requires
+put_limited-requires c =
+    let l = (goal.at.put_limited-requires c).After-list_roots in
     let b = origin l in
-    let load = c.before.before.before.before.load in
+    let load = c.load-row in
     let fine = subst Storable (sym (ap (made l) load.ensures ∙ made-is l)) (storable b) in
-    (room b (i b) (inside b), subst Full (sym c.before.combined.ensures.1) (full-worked (made l load.result) fine))
+    (room b (i b) (inside b), subst Full (sym c.combined-worked.ensures.row_value) (full-worked (made l load.result) fine))
 
-same-length-2 : tie.Need-same-length-2
-same-length-2 c = search rules
-
-same-length-3 : tie.Need-same-length-3
-same-length-3 c = search rules
-
-returns-2 : tie.Need-returns-2
-returns-2 c =
-    let l = c.before.before.before.before.before.before.before.before in
+pub returns : goal.returns
+returns c =
+    let l = (goal.at.returns c).After-list_roots in
     let m = multiplied l in
     let b = origin l in
-    let put = c.before.put-limited in
-    let worked = c.before.before.before.combined.ensures in
-    let load = c.before.before.before.before.before.before.load in
+    let load = c.load-row in
     let same = ap (made l) load.ensures ∙ made-is l in
-    let refusal = worked.0 ∙ ap refusal_of same in
-    let few : (p b).count + length (roots (x b).g) ≤ 16 = omega (arith, count-is m, l.before.before.if1.false) in (
-      reached-same
-          (put.ensures.0 ∙ ap₂ (saved (rows b) (i b)) refusal
-          (ap numbers_held worked.1 ∙ numbers-worked (made l load.result) ∙ ap numbers_of same))
-          (put.ensures.1 ∙ ap₂ (λ n k. answer_of n (listed_progress (p b) k)) refusal (count-is m))
+    let refusal = c.combined-worked.ensures.refusal_value ∙ ap refusal_of same in
+    let few : (p b).count + length (roots (x b).g) ≤ 16 = omega (arith, count-is m, l.if-count-gt16.false) in record {
+      reached = reached-same
+          (c.put_limited.ensures.rows_after ∙ ap₂ (saved (rows b) (i b)) refusal
+          (ap numbers_held c.combined-worked.ensures.row_value ∙ numbers-worked (made l load.result) ∙ ap numbers_of same))
+          (c.put_limited.ensures.value ∙ ap₂ (λ n k. answer_of n (listed_progress (p b) k)) refusal (count-is m))
           (combine-is b)
-          (combine-reached (side b) (ready b) (j b) (inside b) (settled b) (x b) (relisted l) few (storable b)),
-      ap (λ o. o.done) put.ensures.1,
-    )
-
-pub combine-step-spec : {M : Type 1} → statement M
-combine-step-spec =
-    tie.close
-    (tie.spec
-    mul-c
-    array-read-c
-    mul-row-at
-    row-at-requires
-    mul-row-at-2
-    row-at-requires-2
-    slice-aggregate-put-multipliers-at
-    slice-aggregate-put-multipliers-at-2
-    put-multipliers-at-requires
-    add-count
-    answer-requires
-    same_length
-    returns
-    list-roots-requires
-    mul-load
-    load-requires
-    slice-aggregate-combined
-    slice-aggregate-combined-2
-    combined-requires
-    put-limited-requires
-    same-length-2
-    same-length-3
-    returns-2)
+          (combine-reached (side b) (ready b) (j b) (inside b) (settled b) (x b) (relisted l) few (storable b));
+      done_value = ap (λ o. o.done) c.put_limited.ensures.value;
+    }
