@@ -16,7 +16,7 @@ WORD = r"[^\s(){}.;,@\"«»⌜⌝]+"
 TOKEN = re.compile(WORD)
 PATH = re.compile(rf"(?<![^\s(){{}};,«»])({WORD})((?:\.{WORD})+)|(?<=\))((?:\.{WORD})+)")
 HEAD = re.compile(r"^(?:use |--)")
-WORDS = {"pre": "requires", "kept": "auto", "inv": "invariant", "taken": "true", "left": "false", "last": "new", "fits": "ranges", "came": "branch", "type-inv": "type_inv"}
+WORDS = {"pre": "requires", "good": "well_formed", "well-formed": "well_formed", "kept": "auto", "inv": "invariant", "taken": "true", "left": "false", "last": "new", "fits": "ranges", "came": "branch", "type-inv": "type_inv"}
 FIELDS = {"result", "ensures", "requires", "new", "auto", "given", "true", "false", "invariant", "is", "branch", "type_inv"}
 
 
@@ -280,7 +280,7 @@ class Function:
                 text = text[:m.start()] + f"let {name} = {deep} in" + text[m.end() - 1:]
                 seen.add(m.start())
             else:
-                end = r"(?=\.|\)\s*(?:$|\n))" if name == "at" else r"(?![^\s(){}.;,«»])"
+                end = r"(?=\.|\)\s*(?:$|\n))" if name == "at" else r"(?![^\s(){}.;,«»]| =)"
                 rest = re.sub(rf"(?<![^\s(){{}};,«»]){re.escape(name)}{end}", base, text[m.end():])
                 text = text[:m.start()] + rest.lstrip()
         for made, base in re.findall(rf"\(({WORD}) ({WORD})\)(?:\.before)+", text):
@@ -574,10 +574,13 @@ class Function:
         body = rest[clause.end():]
         for v in bits:
             table[v] = table[v].removesuffix("-bits")
-            body = re.sub(rf"\(?\bto_z w64 {re.escape(v)}(?![^\s(){{}}.;,«»])\)?", lambda m: self.unwrapped(m[0], table[v]), body)
-        turn = lambda m: (f"(of_z w64 {table[m[0]]})" if m[0] in bits else table[m[0]]) if m[0] in table else m[0]
+        read = "|".join(rf"\(?\bto_z w64 {re.escape(v)}(?![^\s(){{}}.;,«»])\)?" for v in sorted(bits)) or "(?!)"
+        def turn(m):
+            if m[1]:
+                return self.unwrapped(m[1], table[re.search(rf"w64 ({WORD})", m[1])[1]])
+            return (f"(of_z w64 {table[m[0]]})" if m[0] in bits else table[m[0]]) if m[0] in table else m[0]
         # a field's name in `record { f = .. }` stays
-        body = re.sub(rf"(?<![^\s(){{}};,«»]){WORD}(?![^\s(){{}}.;,@\"«»⌜⌝])(?! = )", turn, body)
+        body = re.sub(rf"({read})|(?<![^\s(){{}};,«»]){WORD}(?![^\s(){{}}.;,@\"«»⌜⌝])(?! = )", turn, body)
         return f"abbrev pub {kind}-{new} : goal.{kind}-{new}\n{rest[:clause.start()]}{kind}-{new} l ={body}"
 
 

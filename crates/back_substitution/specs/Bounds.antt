@@ -3,7 +3,7 @@
 -- Main statements
 --   substitute-grows   no number of a vector becomes smaller by a step of the back substitution
 --   small-before, small-on-the-way   so what is within ±C at the end was so on the way: 8 comes just where a listed value is past ±C
-use Rattle.std.specs.Prelude.{ℕ, ◌+◌, ◌*◌, ◌≤◌, ◌≡◌, ◌≢◌, List, [], ◌∷◌, ◌++◌, T, ℤ, pos, nat_abs, ◌*ℤ◌}
+use Rattle.std.specs.Prelude.{ℕ, ◌*◌, ◌≤◌, ◌≡◌, ◌≢◌, List, [], ◌∷◌, ◌++◌, T, ℤ, pos, nat_abs}
 use Rattle.std.proofs.Common.{sym, ◌∙◌, ap, subst, le_trans, mul-le-mul_right, one-mul, arith, leb→le, le→leb}
 use Rattle.std.proofs.Math.Logic.{by_cases}
 use Rattle.std.proofs.Math.Decide.{ℕ_discrete}

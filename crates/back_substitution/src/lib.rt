@@ -1,5 +1,7 @@
 // The listed sequences: one for each column that is left without a pivot, by back substitution (SCOPE 14.5). `list_sequences` asks for
 // settled rows within ±C and for a list store of zeros.
+#![tactic(auto)]
+
 ghost use Rattle.std.specs.Prelude.{◌≡◌, ◌≢◌, not, ◌+◌, ◌*◌, ◌≤◌, ◌<◌, T, eqb, pos, nat_abs, length, take, drop, get_or};
 ghost use Rattle.algebra.specs.Gcd as Gcd;
 ghost use Rattle.algebra.specs.Polynomials as Polynomials;

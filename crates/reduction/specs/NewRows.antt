@@ -10,14 +10,13 @@
 --   row_room                row i of equations rows has room in a store for equations rows
 --   saved-none              a refusal stores nothing
 --   saved-outcome, saved-within, saved-kept   what storing the new row does
-use Rattle.std.specs.Prelude.{ℕ, zero, suc, ◌+◌, ◌*◌, ◌-◌, ◌≤◌, ◌<◌, ◌≡◌, refl, Bool, true, false, cond, List, ℤ, pos, length, take, set, replicate}
+use Rattle.std.specs.Prelude.{ℕ, zero, suc, ◌+◌, ◌*◌, ◌≤◌, ◌<◌, ◌≡◌, refl, Bool, true, false, cond, List, ℤ, pos, length, take, set}
 use Rattle.std.proofs.Math.Nat.{suc-mul, mul-le-mul_right}
 use Rattle.std.proofs.Common.{le_of_eq, not-suc-le-zero, arith, sym, ◌∙◌, ap, lit<, length-take-le}
 use Rattle.std.proofs.lemmas.List.{length-replicate}
 use Rattle.std.proofs.Math.Seq.{paste}
 use Rattle.algebra.specs.Polynomials.{Polynomial}
-use Rattle.lists.specs.Tests.{every}
-use Rattle.rules.specs.Limits.{coefficient_count, entries_length, row_length, small}
+use Rattle.rules.specs.Limits.{coefficient_count, entries_length, row_length}
 use Rattle.rules.specs.Rows.{Row, coefficients_of, contradicts, combine, primitive, cut, shift_up, small_row, low_degrees}
 use Rattle.rules.specs.Elimination.{Limited, within, beyond, limit_coefficients, limit_degrees, consistent, going, put_row, put_limited_of}
 use Rattle.rules.specs.Stores.{row_of, rows_of, relations_of, row_need, Shaped}

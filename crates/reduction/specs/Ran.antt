@@ -26,7 +26,7 @@ use Rattle.algebra.specs.Polynomials.{is_zero_of, is_zero-replicate, zero-list}
 use Rattle.rules.specs.Limits.{column_count, most_equations, row_length, relation_length, small}
 use Rattle.lists.specs.Tests.{every}
 use Rattle.lists.specs.Taken.{drop-take}
-use Rattle.rules.specs.Stores.{rows_of, relations_of, row_need, relation_need, row_store_of, row_store_for, relation_store_of}
+use Rattle.rules.specs.Stores.{rows_of, relations_of, row_need, relation_need, row_store_for, relation_store_of}
 use Rattle.rules.specs.Elimination.{Side, State, Outcome, going, done, refused, run, enough, start}
 use Rattle.rules.specs.Layout.{row_store_of-rows_of, relation_store_of-relations_of, length-rows_of, length-relations_of}
 use Rattle.rules.specs.Calls.{zeros}

@@ -13,7 +13,7 @@
 --   multipliers-in                   the multipliers of the state are those of the store
 --   combine-refused, combine-reached rules 3 and 4
 --   shift-reached                    rule 6
-use Rattle.std.specs.Prelude.{ℕ, suc, ◌+◌, ◌*◌, ◌-◌, ◌≤◌, ◌<◌, ◌≡◌, refl, false, List, ◌++◌, ℤ, length, take, get_or}
+use Rattle.std.specs.Prelude.{ℕ, suc, ◌+◌, ◌-◌, ◌≤◌, ◌<◌, ◌≡◌, refl, false, List, ◌++◌, ℤ, length, take, get_or}
 use Rattle.std.proofs.Common.{le_refl, add-one, arith, ◌∙◌, subst, subst₂, get_or-take}
 use Rattle.std.proofs.Math.Path.{sym, ap, ap₂}
 use borrow.Author.Tests.{le-leb, lt-leb}
@@ -21,7 +21,6 @@ use Rattle.std.proofs.Math.ListN.{length-append}
 use Rattle.std.proofs.lemmas.List.{length-map}
 use Rattle.algebra.specs.Polynomials.{Polynomial}
 use Rattle.algebra.specs.Roots.{roots}
-use Rattle.rules.specs.Limits.{row_length}
 use Rattle.rules.specs.Rows.{entry, combine, primitive, shift_up}
 use Rattle.rules.specs.Stores.{row_of, rows_of, relations_of, relation_need, row_need}
 use Rattle.rules.specs.Elimination.{Side, State, Outcome, going, refused, drop_row, Limited, limit_degrees, consistent, row_at, put_limited_of}

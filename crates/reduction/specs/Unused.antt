@@ -19,7 +19,7 @@ use Rattle.lists.specs.Parts.{parts}
 use Rattle.lists.specs.Tests.{T-&&, every, all-of-every, every-of-all}
 use Rattle.rules.specs.Limits.{column_count, most_span, row_length}
 use Rattle.rules.specs.Rows.{Row, no_row, shift_up, width, zero_block}
-use Rattle.rules.specs.Elimination.{Side, State, Outcome, going, refused, row_at, put_row}
+use Rattle.rules.specs.Elimination.{Side, State, Outcome, going, row_at, put_row}
 use Rattle.rules.specs.Elimination.{list_relations, settle, count_shift, drop_row, narrow_first, step}
 use Rattle.rules.specs.Stores.{unused_zero_of, row_of, rows_of}
 use Rattle.rules.specs.Layout.{length-rows_of}

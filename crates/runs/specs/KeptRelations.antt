@@ -9,7 +9,7 @@
 -- Main statements
 --   run-alike            runs from a state behind R and behind Q, of one length, are alike
 use Prim.Native.Nat.{ℕ, zero, suc, ◌+◌}
-use Rattle.std.specs.Prelude.{◌≡◌, Bool, true, false, not, cond, ltb, leb}
+use Rattle.std.specs.Prelude.{◌≡◌, Bool, true, false, cond, ltb, leb}
 use Rattle.std.proofs.Math.Path.{refl, subst₂}
 use Rattle.std.proofs.Common.{sym, ◌∙◌, ap, subst, length-append}
 use mathlib.Core.List.{List, ◌++◌, map, append_assoc}

@@ -7,7 +7,7 @@
 -- Main statements
 --   listed_more                          the run leaves the relations that were there, and lists its own behind them
 --   trailing-refused, trailing-held      what the run comes to with a refusal, and with none
-use Prim.Native.Nat.{ℕ, zero, suc, ◌+◌, ◌≤◌}
+use Prim.Native.Nat.{ℕ, zero, suc, ◌≤◌}
 use Rattle.std.proofs.Common.{le_refl, ◌∙◌, length-append, take_at, drop_at}
 use native.Mathlib.Omega.{arith}
 use Rattle.std.proofs.Math.Path.{◌≡◌, refl, sym, ap, ap₂, subst}

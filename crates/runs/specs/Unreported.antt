@@ -9,7 +9,7 @@
 --   unreported-accepted           what is left of the result of a run that accepts
 --   unreported-left               the whole call
 use Rattle.std.specs.Prelude.{ℕ, ◌≤◌, ◌≡◌, refl, List, ℤ, length, take}
-use Rattle.std.proofs.Common.{sym, ◌∙◌, ap, ap₂, length-take-le}
+use Rattle.std.proofs.Common.{sym, ◌∙◌, ap, length-take-le}
 use Rattle.rules.specs.Elimination.{Side, rank}
 use Rattle.rules.specs.Stores.{Sizes, span, check_stores_of}
 use Rattle.rules.specs.Layout.{length-relations_of}

@@ -1,5 +1,7 @@
 // A run on stores: their checks, the run on the side asked for, and what it leaves in them and gives back. `elimination` has the public
 // entry points.
+#![tactic(auto)]
+
 ghost use Rattle.std.specs.Prelude.{◌≡◌, true, List, ℕ, ◌≤◌, T, ℤ, length, take};
 ghost use Rattle.rules.specs.Limits.{column_count, most_equations};
 ghost use Rattle.rules.specs.Elimination as Elimination;

@@ -7,7 +7,7 @@
 use Rattle.std.specs.Prelude.{ℕ, zero, suc, ◌≤◌, ◌≡◌, refl, Bool, true, false, not, T, length, ℤ, pos}
 use Rattle.std.proofs.Common.{zero-le, suc-le-suc, not-suc-le-zero, le_of_suc-le-suc, suc-ne-zero, sym, ◌∙◌, ap, ap₂, subst, T_not}
 use Rattle.std.proofs.Math.Nat.{suc_inj}
-use mathlib.Core.List.{List, [], ◌∷◌, nil≢cons}
+use mathlib.Core.List.{[], ◌∷◌, nil≢cons}
 use Rattle.std.proofs.Math.Dec.{not_T}
 use Rattle.algebra.specs.Polynomials.{Polynomial, is_zero_of, is_zero_ℤ, is_zero-cons, is_zero_ℤ-not-iff}
 use Rattle.rules.specs.Limits.{small}

@@ -7,19 +7,19 @@
 -- Main statements
 --   side-exact, sides-exact  exactly the lines of such sides are read, as those sides
 --   sides-iff                what the sides of a section have in all
-use Rattle.std.specs.Prelude.{ℕ, zero, suc, ◌+◌, ◌≤◌, ◌<◌, ◌^◌, ◌≡◌, refl, ◌↔◌, Bool, true, false, not, ◌&&◌, cond, T, eqb, length, ℤ, pos, nat_abs, ◌≤ℤ◌}
-use Rattle.std.proofs.Common.{arith, suc-ne-zero, le_trans, le_of_eq, sym, ◌∙◌, ap, ap₂, subst, T_not, eqb→eq}
+use Rattle.std.specs.Prelude.{ℕ, suc, ◌+◌, ◌≤◌, ◌<◌, ◌^◌, ◌≡◌, refl, ◌↔◌, Bool, true, false, not, ◌&&◌, cond, T, eqb, length, ℤ, pos, nat_abs, ◌≤ℤ◌}
+use Rattle.std.proofs.Common.{arith, suc-ne-zero, le_trans, le_of_eq, sym, ◌∙◌, ap, subst, T_not, eqb→eq}
 use mathlib.Core.List.{List, [], ◌∷◌, ◌++◌, map, flatten, append-nil}
 use Rattle.std.proofs.Math.Dec.{not_T}
 use Rattle.std.specs.Int.Signed.{le_z_yes, le_z}
-use Rattle.algebra.specs.Order.{pos-≤ℤ, pos-nonneg, ≤ℤ-trans, pos-nat_abs-nonneg}
+use Rattle.algebra.specs.Order.{pos-≤ℤ, pos-nonneg, pos-nat_abs-nonneg}
 use Rattle.algebra.specs.Polynomials.{Polynomial, is_zero_of, is_zero_ℤ, is_zero_ℤ-not-iff}
-use Rattle.lists.specs.Tests.{T-&&, every, cond-zero-iff}
+use Rattle.lists.specs.Tests.{T-&&, every}
 use Rattle.lists.specs.Everywhere.{All}
 use Rattle.lists.specs.Padded.{pad_to, length-pad_to}
 use Rattle.rules.specs.Limits.{coefficient_count, small}
-use Rattle.rules.specs.Numbers.{newline, decimal, line, field, got, then_read}
-use Rattle.rules.specs.Sheets.{after_count_of, trim, judge_side_of, read_side, read_sides, side_line, read_coefficients}
+use Rattle.rules.specs.Numbers.{newline, line, got, then_read}
+use Rattle.rules.specs.Sheets.{after_count_of, trim, judge_side_of, read_side, read_sides, side_line}
 use Rattle.tokens.specs.Exact.{Exact, field-exact, then-exact, same-exact, nothing-exact, Chain, chain_bytes, chain-exact}
 use Rattle.writing.specs.Writer.{trim-none, trim-le}
 use Rattle.sheets.specs.WrittenTerms.{range-digits, parted, line-parted, newline-separator, Sound, coefficients-exact}

@@ -1,5 +1,7 @@
 // Sheets read into lent stores and written from them. `read_sheet` and `write_sheet` are the public entry points: no
 // `requires`, and a contract that gives the result and every lent store by equations with `rules`.
+#![tactic(auto)]
+
 ghost use Rattle.std.specs.Prelude.{◌≡◌};
 ghost use Rattle.rules.specs.SheetCalls.{read_call, write_call};
 ghost use Rattle.stores.specs.Validity.{the_sizes_of};

@@ -14,8 +14,8 @@
 --   calls-total, calls-divided   only the sum of the budgets counts
 --   calls-whole, parts_whole   the whole run is the run with enough steps, at once or in parts
 use Prim.Native.Nat.{ℕ, zero, suc, ◌+◌, ◌*◌, ◌-◌, ◌≤◌, zero-le}
-use Rattle.std.proofs.Common.{zero-add, add-zero, add_assoc, suc-add, arith, ◌∙◌, subst, inl, inr, drop_at}
-use Rattle.std.specs.Prelude.{◌≡◌, refl, ◌≢◌, Bool, ℤ, pos, length, take, drop, replicate}
+use Rattle.std.proofs.Common.{add-zero, add_assoc, arith, ◌∙◌, subst, drop_at}
+use Rattle.std.specs.Prelude.{◌≡◌, refl, ◌≢◌, Bool, ℤ, pos, length, drop, replicate}
 use Rattle.std.proofs.Math.Path.{sym, ap, ap₂}
 use Rattle.std.proofs.Math.Bool.{true, false}
 use mathlib.Core.List.{List, [], ◌∷◌, ◌++◌, append_assoc, flatten}
@@ -25,9 +25,9 @@ use Rattle.lists.specs.Overwritten.{overwrite}
 use Rattle.lists.specs.Totals.{total}
 use Rattle.rules.specs.Limits.{most_relations, row_length}
 use Rattle.rules.specs.Rows.{Row, Relation}
-use Rattle.rules.specs.Elimination.{State, start, Outcome, going, done, refused, leading, enough, leading_run_of, whole_run_of}
+use Rattle.rules.specs.Elimination.{State, start, Outcome, going, done, refused, leading, enough, whole_run_of}
 use Rattle.rules.specs.Stores.{Sizes, equations, with_equations_of, span, rows_of, relations_of, row_need, relation_need, row_store_of, row_store_for}
-use Rattle.rules.specs.Stores.{relation_store_of, check_stores_of, Valid, StoreRow}
+use Rattle.rules.specs.Stores.{relation_store_of, check_stores_of, StoreRow}
 use Rattle.rules.specs.Layout.{stores-valid, length-row_store_of, length-row_store_for, length-relation_store_of, count_right-iff}
 use Rattle.rules.specs.Calls.{Result, Call, refusal, acceptance, zeros, after_run_of, after_check, call_run, cleared}
 use Rattle.theory.proofs.Steps.{chain_length}
@@ -35,9 +35,9 @@ use Rattle.theory.proofs.Ending.{leading_run-ends}
 use Rattle.steps.specs.Budgets.{Walk, steps, Led, Walked, used-up, at-end, stopped, walked, led-chain, led-further, row-of, continued}
 use Rattle.steps.specs.Budgets.{refusal-number}
 use Rattle.steps.specs.Budgets.{later, steps-add, whole_run, whole-more}
-use Rattle.steps.specs.HeldCalls.{Held, no_state_of, state_in_of, held_state, prepared, StepsResult, StepsCall, moved_to, stopped_by_of, after_steps}
+use Rattle.steps.specs.HeldCalls.{no_state_of, state_in_of, held_state, prepared, StepsCall, moved_to, stopped_by_of, after_steps}
 use Rattle.steps.specs.HeldCalls.{after_state_check, steps_call, check_state_of}
-use Rattle.steps.specs.SoundStates.{Sound, sound-chain, shifts-chain, state-held, sound-passes, prepared-passes, prepared-start}
+use Rattle.steps.specs.SoundStates.{Sound, sound-chain, shifts-chain, state-held, sound-passes, prepared-passes}
 
 -- ---- one call after another
 

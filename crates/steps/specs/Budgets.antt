@@ -18,7 +18,7 @@
 --   steps-ended          a budget that is larger than needed gives the same
 --   whole_run, whole-few, whole-more, whole_parts   the whole run is the run with enough steps, and so is any run with more
 use Rattle.std.specs.Prelude.{ℕ, zero, suc, ◌+◌, ◌-◌, ◌≤◌, ◌<◌, ◌≡◌, refl, ◌≢◌, Bool, true, false, cond, List, [], ◌∷◌, length}
-use Rattle.std.proofs.Common.{zero-le, ◌∙◌, ap, ap₂, subst, inl, inr, true≢false, zero-add, add-zero, suc-add, add_assoc, add-sub_of_le, le_refl, le_of_lt, zero-lt-suc, arith}
+use Rattle.std.proofs.Common.{zero-le, ◌∙◌, ap, subst, inl, inr, true≢false, zero-add, add-zero, suc-add, add_assoc, add-sub_of_le, le_refl, le_of_lt, zero-lt-suc, arith}
 use Rattle.std.proofs.Math.Path.{sym}
 use Rattle.std.proofs.Math.Nat.{suc-le-suc_iff}
 use Rattle.lists.specs.Everywhere.{All}
@@ -27,7 +27,7 @@ use Rattle.rules.specs.Rows.{Row, Relation}
 use Rattle.rules.specs.Stores.{StoreRow}
 use Rattle.rules.specs.Elimination.{Side, leading, State, start, Outcome, going, done, refused, finished, step, and_then, run, enough}
 use Rattle.rules.specs.Elimination.{leading_run_of}
-use Rattle.theory.specs.Steps.{current, Stepped, Chain, here, next, Left, none_left, row-left, left, StepView, over-limit, inconsistent}
+use Rattle.theory.specs.Steps.{current, Stepped, Chain, here, Left, none_left, row-left, left, StepView, over-limit, inconsistent}
 use Rattle.theory.specs.Steps.{goes_on, going-injective, going≢done, going≢refused, done≢refused, chain-before}
 use Rattle.theory.proofs.Steps.{step-view}
 use Rattle.theory.specs.Steps.{Refusal}

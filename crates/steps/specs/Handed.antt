@@ -2,7 +2,7 @@
 --
 -- Main definitions
 --   held_of, prepared_of    the state and the result of preparing, as the definitions have them
-use Prim.Native.Nat.{ℕ, zero, suc, ◌+◌, ◌*◌, ◌-◌, ◌≤◌, ◌<◌, pred}
+use Prim.Native.Nat.{ℕ, zero, suc, ◌+◌, ◌-◌, ◌≤◌, ◌<◌, pred}
 use Rattle.std.proofs.Common.{not-suc-le-zero, le_of_lt, le_refl, mul-le-mul_right, add-one, arith, ◌∙◌, ap₂, subst, leb→le, eqb→eq, take-append-drop, take-suc, take-take}
 use Rattle.std.proofs.Math.Nat.{le_trans}
 use Rattle.std.proofs.Math.Decide.{ℕ_discrete}

@@ -5,10 +5,10 @@
 --   handed-few, handed-ends     at most `most_steps` steps can be taken of it, and a run with so many ends
 --   call_none                   with budget 0 it is checked, and nothing moves
 use Prim.Native.Nat.{ℕ, zero, suc, ◌+◌, ◌*◌, ◌-◌, ◌≤◌, ◌<◌, pred}
-use Rattle.std.proofs.Common.{not-suc-le-zero, le_refl, mul-le-mul_left, sym, ◌∙◌, ap₂, take-append-drop, length-take-le}
+use Rattle.std.proofs.Common.{not-suc-le-zero, mul-le-mul_left, sym, ◌∙◌, take-append-drop, length-take-le}
 use Rattle.std.proofs.Math.Nat.{le_of_eq, mul-le-mul}
 use native.Mathlib.Omega.{arith}
-use Rattle.std.specs.Prelude.{◌≡◌, ◌≢◌, Bool, T, ℤ, length, take, drop}
+use Rattle.std.specs.Prelude.{◌≡◌, ◌≢◌, Bool, ℤ, length, take, drop}
 use Rattle.std.proofs.Math.Path.{refl, ap, subst}
 use Rattle.std.proofs.Math.Bool.{true, false, cond}
 use mathlib.Core.List.{List, [], ◌∷◌, ◌++◌, map}
@@ -17,9 +17,9 @@ use Rattle.lists.specs.Overwritten.{overwrite}
 use Rattle.lists.specs.Padded.{pad_to, pad-taken}
 use Rattle.rules.specs.Limits.{column_count, most_equations}
 use Rattle.rules.specs.Rows.{Row, width}
-use Rattle.rules.specs.Elimination.{State, Outcome, going, done, leading, finished}
-use Rattle.rules.specs.Stores.{Sizes, equations, with_equations_of, span, rows_of, relations_of, row_need, relation_need, row_store_for, relation_store_of}
-use Rattle.rules.specs.Stores.{check_stores_of, Valid, StoreRow, Shaped}
+use Rattle.rules.specs.Elimination.{State, going, done, leading, finished}
+use Rattle.rules.specs.Stores.{equations, with_equations_of, span, rows_of, relations_of, row_need, relation_need, row_store_for, relation_store_of}
+use Rattle.rules.specs.Stores.{Valid, StoreRow, Shaped}
 use Rattle.rules.specs.Layout.{check_stores-zero, stores-valid, lengths_right-iff, numbers_right-iff, count_right-iff, length-rows_of}
 use Rattle.rules.specs.Layout.{length-relations_of, row_store_for-all, row_store_of-rows_of, relation_store_of-relations_of, size-bounds}
 use Rattle.rules.specs.Calls.{Result, refusal, reported_order, acceptance}
@@ -31,7 +31,7 @@ use Rattle.theory.specs.Ending.{measure}
 use Rattle.theory.proofs.Ending.{chain-measure}
 use Rattle.reduction.specs.Progress.{most_steps}
 use Rattle.steps.specs.Budgets.{Walk, standing, steps, Led, Walked, used-up, at-end, stopped, walked, led-chain, row-of}
-use Rattle.steps.specs.HeldCalls.{Held, the_columns_of, state_in_of, held_state, StepsCall, moved_to, after_steps, after_state_check, steps_call, check_state_of}
+use Rattle.steps.specs.HeldCalls.{Held, the_columns_of, state_in_of, held_state, moved_to, after_steps, after_state_check, steps_call, check_state_of}
 use Rattle.steps.specs.SoundStates.{HeldBounds, StateRight, check_state-zero, sizes_held-iff, pivots-right, Sound, sound-kept}
 use Rattle.theory.specs.LimitsKept.{valid-rows}
 use Rattle.steps.specs.Handed.{held-positive, columns-count}

@@ -18,7 +18,7 @@ use Rattle.rules.specs.Elimination.{State, Outcome, going, done, refused, leadin
 use Rattle.rules.specs.Stores.{Sizes, equations, with_equations_of, span, rows_of, relations_of, row_need, relation_need, row_store_for}
 use Rattle.rules.specs.Stores.{relation_store_of, sizes_right_of, count_right, lengths_right_of, numbers_right_of, check_stores_of}
 use Rattle.rules.specs.Calls.{Result, refusal, reported_order, acceptance, zeros}
-use Rattle.steps.specs.Budgets.{Walk, steps}
+use Rattle.steps.specs.Budgets.{steps}
 
 -- ---- the state
 

@@ -9,8 +9,8 @@
 --   steps-led                 the steps after some that were taken
 --   move-starts, move-goes, move-stops, move-refused   the turns of the loop
 --   moved-held, moved-cleared what a run gives that is not refused, and one that is
-use Rattle.std.specs.Prelude.{ℕ, zero, suc, ◌+◌, ◌*◌, ◌-◌, ◌≤◌, ◌<◌, ◌≡◌, refl, ◌≢◌, ◌⊎◌, Bool, true, false, cond, List, leb, ℤ, pos, length, take, replicate}
-use Rattle.std.proofs.Common.{zero-le, zero-add, add-zero, suc-add, add-sub_of_le, le_of_eq, mul-le-mul_right, add-one, ◌∙◌, ap, subst, true≢false}
+use Rattle.std.specs.Prelude.{ℕ, zero, suc, ◌+◌, ◌*◌, ◌-◌, ◌≤◌, ◌<◌, ◌≡◌, refl, ◌≢◌, ◌⊎◌, Bool, true, false, cond, List, leb, ℤ, pos, replicate}
+use Rattle.std.proofs.Common.{zero-add, add-zero, suc-add, add-sub_of_le, ◌∙◌, ap, true≢false}
 use Rattle.std.proofs.Math.Nat.{le_refl, le_trans}
 use native.Mathlib.Omega.{arith}
 use Rattle.std.proofs.Math.Path.{sym, ap₂}
@@ -18,12 +18,12 @@ use Rattle.std.proofs.Math.Logic.{inl, inr}
 use borrow.Author.Tests.{le-leb, lt-leb}
 use Rattle.std.proofs.Math.Seq.{paste}
 use Rattle.lists.specs.Everywhere.{All, all-mono}
-use Rattle.rules.specs.Limits.{most_equations, block_count, relation_length}
-use Rattle.rules.specs.Rows.{Row, width}
+use Rattle.rules.specs.Limits.{relation_length}
+use Rattle.rules.specs.Rows.{Row}
 use Rattle.rules.specs.Stores.{rows_of, row_need, relation_need, Shaped, StoreRow}
-use Rattle.rules.specs.Elimination.{Side, leading, State, Outcome, going, done, refused, finished, step}
+use Rattle.rules.specs.Elimination.{Side, leading, State, going, done, refused, finished, step}
 use Rattle.rules.specs.Layout.{length-rows_of, StoreRow-rows_of}
-use Rattle.theory.specs.Cells.{total_of, total_of-bound, shifts_of, width-le-length}
+use Rattle.theory.specs.Cells.{total_of-bound, shifts_of, width-le-length}
 use Rattle.theory.proofs.Ending.{chain-shifts}
 use Rattle.sides.specs.StoreStates.{kept_same, kept_then}
 use Rattle.reduction.specs.Progress.{Ready, Reached, state_of, outcome_of, outcome_at, answer_of, most_steps, start_progress}

@@ -5,26 +5,25 @@
 --
 -- Main statements
 --   steps-small                 those of every call that is not refused before its work
-use Prim.Native.Nat.{ℕ, zero, suc, ◌+◌, ◌*◌, ◌≤◌, ◌<◌, zero-le}
+use Prim.Native.Nat.{ℕ, suc, ◌≤◌, ◌<◌, zero-le}
 use Rattle.std.proofs.Math.Nat.{le_trans, mul-le-mul_left}
-use Rattle.std.proofs.Common.{le_refl, sym, ◌∙◌, ap}
+use Rattle.std.proofs.Common.{sym, ap}
 use native.Mathlib.Omega.{arith}
 use Rattle.std.specs.Prelude.{◌≡◌, refl, List, map, ℤ, length, replicate}
 use Rattle.std.proofs.Math.Path.{subst}
-use Rattle.std.proofs.lemmas.List.{length-map}
 use Rattle.lists.specs.Everywhere.{All, all-mono, get_or-all, map-keeps, all_replicate}
 use Rattle.lists.specs.Padded.{length-pad_to, all-pad_to}
 use Rattle.rules.specs.Limits.{column_count, most_equations, most_relations}
-use Rattle.rules.specs.Rows.{Row, width}
+use Rattle.rules.specs.Rows.{Row}
 use Rattle.rules.specs.Elimination.{State, leading, rank}
-use Rattle.rules.specs.Stores.{Sizes, equations, with_equations_of, span, rows_of, StoreRow, Shaped}
+use Rattle.rules.specs.Stores.{Sizes, equations, with_equations_of, span, StoreRow, Shaped}
 use Rattle.rules.specs.Layout.{size-bounds, count_right-iff, length-rows_of}
 use Rattle.rules.specs.Calls.{Result, refusal, reported_order, acceptance}
 use Rattle.theory.specs.Cells.{total_of-bound, shifts_of, width-le-length}
 use Rattle.theory.proofs.Ending.{chain-shifts}
 use Rattle.reduction.specs.Progress.{most_steps}
 use Rattle.runs.specs.CallLaws as RunLaws
-use Rattle.steps.specs.Budgets.{Walk, steps, Led, Walked, used-up, at-end, stopped, walked, led-chain}
+use Rattle.steps.specs.Budgets.{Walk, Led, Walked, used-up, at-end, stopped, walked, led-chain}
 use Rattle.steps.specs.HeldCalls.{Held, no_state_of, state_in_of, held_state, StepsResult, moved_to, stopped_by_of, after_steps, after_state_check, steps_call}
 use Rattle.steps.specs.HeldCalls.{check_state_of}
 use Rattle.steps.specs.SoundStates.{HeldBounds, Sound, settled-most, columns-within}

@@ -10,11 +10,10 @@
 --   sound-passes        and passes the checks
 --   check_state-zero     the checks as facts
 --   prepared-start, prepared-passes   a prepared state is the start of a run, and passes the checks
-use Prim.Native.Nat.{ℕ, zero, suc, ◌+◌, ◌*◌, ◌-◌, ◌≤◌, ◌<◌, zero-le, pred}
-use Rattle.std.proofs.Common.{le_refl, le_trans, le_of_eq, mul-le-mul_right, not-suc-le-zero, arith, sym, ◌∙◌, ap₂, inl, leb→le, get_or-take, length-take-le}
-use Rattle.std.proofs.Math.Nat.{suc-le-suc_iff}
+use Prim.Native.Nat.{ℕ, zero, suc, ◌*◌, ◌-◌, ◌≤◌, ◌<◌, zero-le, pred}
+use Rattle.std.proofs.Common.{le_refl, le_trans, le_of_eq, mul-le-mul_right, not-suc-le-zero, arith, sym, ◌∙◌, inl, leb→le, get_or-take, length-take-le}
 use Rattle.std.proofs.Math.Decide.{ℕ_discrete}
-use Rattle.std.specs.Prelude.{◌≡◌, ◌↔◌, Bool, true, false, ◌&&◌, not, cond, eqb, drop, get_or, pos}
+use Rattle.std.specs.Prelude.{◌≡◌, ◌↔◌, ◌&&◌, not, eqb, drop, get_or, pos}
 use Rattle.std.proofs.Math.Path.{refl, ap, subst}
 use mathlib.Core.List.{List, [], ◌∷◌, ◌++◌, map, append_assoc, Memᴰ}
 use Rattle.std.proofs.Math.Dec.{T, leb, le→leb}
@@ -27,16 +26,16 @@ use Rattle.lists.specs.Everywhere.{All, all-mono, all_get_or, get_or-all, map-ke
 use Rattle.lists.specs.Places.{member-place}
 use Rattle.lists.specs.Padded.{pad_to, take-pad_to, drop-pad_to}
 use Rattle.lists.specs.Tests.{T-&&, every, every-all, every-of-all, all-of-every, cond-passed, cond-zero}
-use Rattle.rules.specs.Limits.{column_count, most_equations, most_relations, row_length}
+use Rattle.rules.specs.Limits.{column_count, most_equations, row_length}
 use Rattle.rules.specs.Rows.{Row, Relation, no_row, entry, width}
 use Rattle.rules.specs.Elimination.{State, start, leading}
-use Rattle.rules.specs.Stores.{Sizes, equations, with_equations_of, span, rows_of, relations_of, row_need, relation_need, row_store_of, row_store_for}
+use Rattle.rules.specs.Stores.{Sizes, equations, with_equations_of, span, rows_of, relations_of, row_store_of, row_store_for}
 use Rattle.rules.specs.Stores.{relation_store_of, sizes_right_of, count_right, lengths_right_of, numbers_right_of, check_stores_of, unused_zero_of, row_right_of}
 use Rattle.rules.specs.Stores.{Valid}
 use Rattle.rules.specs.Layout.{size-bounds, check_stores-zero, valid-stores, rows_of-row_store_for, relations_of-relation_store_of}
-use Rattle.rules.specs.Layout.{count_right-iff, StoresRight}
+use Rattle.rules.specs.Layout.{StoresRight}
 use Rattle.rules.specs.Calls.{reported_order}
-use Rattle.theory.specs.Steps.{current, Chain, chain-induction}
+use Rattle.theory.specs.Steps.{Chain, chain-induction}
 use Rattle.theory.proofs.Steps.{chain_length}
 use Rattle.theory.specs.Triangular.{Triangular, triangular-start, triangular-chain}
 use Rattle.theory.specs.Pivots.{PivotRow, PivotRows, ColumnsBelow, column-below, order-distinct}

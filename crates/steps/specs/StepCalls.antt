@@ -13,16 +13,16 @@
 --   triangular-in              its settled rows are triangular
 --   stands                     what is left of a run
 --   call-moved, call-unmoved   the whole call
-use Prim.Native.Nat.{ℕ, zero, suc, ◌+◌, ◌*◌, ◌-◌, ◌≤◌, ◌<◌, pred}
-use Rattle.std.proofs.Common.{le_trans, le_of_eq, le_antisymm, mul-le-mul_left, arith, sym, ◌∙◌, ap₂, leb-true}
-use Rattle.std.specs.Prelude.{◌≡◌, refl, ◌≢◌, Bool, true, false, not, List, [], ◌∷◌, map, T, leb, ℤ, length, take}
+use Prim.Native.Nat.{ℕ, zero, suc, ◌≤◌}
+use Rattle.std.proofs.Common.{le_trans, le_of_eq, le_antisymm, mul-le-mul_left, sym, ◌∙◌, ap₂, leb-true}
+use Rattle.std.specs.Prelude.{◌≡◌, refl, ◌≢◌, Bool, true, false, not, List, T, ℤ, length, take}
 use Rattle.std.proofs.Math.Path.{ap, subst}
 use Rattle.lists.specs.Everywhere.{member-all}
 use Rattle.lists.specs.Padded.{pad_to, length-pad_to, take-pad_to}
 use Rattle.rules.specs.Limits.{column_count, most_equations}
 use Rattle.rules.specs.Rows.{entry, leading_block}
 use Rattle.rules.specs.Elimination.{leading, State, Outcome, going, done, refused, finished, diagonal, diagonal_place}
-use Rattle.rules.specs.Stores.{Sizes, equations, with_equations_of, span, rows_of, relations_of, row_need, check_stores_of}
+use Rattle.rules.specs.Stores.{Sizes, equations, with_equations_of, span, rows_of, relations_of, row_need}
 use Rattle.rules.specs.Layout.{size-bounds, check_stores-zero}
 use Rattle.rules.specs.Calls.{Result, refusal, reported_order, acceptance}
 use Rattle.theory.specs.Steps.{going≢refused, going≢done, done≢refused, done-injective, refused-injective}
@@ -32,12 +32,12 @@ use Rattle.theory.specs.Pivots.{PivotRows, order-distinct}
 use Rattle.theory.specs.Triangular.{Triangular, triangular-chain}
 use Rattle.theory.specs.Report.{nonzero-diagonal}
 use Rattle.working_rows.specs.Found.{Columns}
-use Rattle.sides.specs.Lent.{Within, Listing}
+use Rattle.sides.specs.Lent.{Within}
 use Rattle.sides.specs.FurthestRoots.{Nonzero}
 use Rattle.sides.specs.ReportLaws.{settled_state, diagonal-settled}
-use Rattle.reduction.specs.Progress.{Ready, Reached, state_of, outcome_of, outcome_at, answer_of, start_progress}
+use Rattle.reduction.specs.Progress.{Ready, state_of, outcome_of, outcome_at}
 use Rattle.reduction.specs.StepCases.{finished-at}
-use Rattle.reduction.specs.Ran.{Ran, progress_of, answer_for_of, rows_after_of, relations_after_of}
+use Rattle.reduction.specs.Ran.{progress_of, answer_for_of, rows_after_of, relations_after_of}
 use Rattle.reduction.specs.declared.step.Progress.{Progress}
 use Rattle.reduction.specs.declared.step.Outcome as Answer
 use Rattle.runs.specs.CallLaws.{few-blocks, Checked, checked}

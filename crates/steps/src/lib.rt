@@ -1,5 +1,7 @@
 // The leading run by steps: a state is prepared, and each call takes at most as many steps as its budget says. `prepare` and `run_steps`
 // are the public entry points: no `requires`, and contracts that give the result and every lent store by equations.
+#![tactic(auto)]
+
 ghost use Rattle.std.specs.Prelude.{◌≡◌, List, ◌≤◌, T, ℤ};
 ghost use Rattle.rules.specs.Limits.{column_count};
 ghost use Rattle.rules.specs.Stores.{sizes_right_of, span};
@@ -21,6 +23,7 @@ mod moving;
 // A run between two calls: the sizes of the rows that are left, the number of relations, of settled rows, their columns, counted
 // from 1, with zeros past the last, and the shifts (SCOPE 11.11).
 #[derive(Drop)]
+#[derive(Clone, Copy)]
 pub struct State {
     pub sizes: stores::validity::Sizes,
     pub relations: usize,
