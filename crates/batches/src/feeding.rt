@@ -11,6 +11,7 @@ use crate::Stage;
 // What the bytes came to: the stage and the batch after them, the bytes that were taken, the bytes written at the front of the output;
 // `full` says that the next answer does not fit.
 #[derive(Drop)]
+#[derive(Clone, Copy)]
 pub(crate) struct Fed {
     pub stage: Stage,
     pub batch: frames::Batch,

@@ -17,6 +17,7 @@ mod pieces;
 // What a batch that comes in pieces waits for: the line with its sheet count, its sheets, or nothing more, since it is
 // broken (SCOPE 5.33).
 #[derive(Drop)]
+#[derive(Clone, Copy)]
 pub enum Stage {
     Count,
     Sheets,
@@ -26,6 +27,7 @@ pub enum Stage {
 // A batch that comes in pieces: the sheets to come with the answers so far, client by client, and the number of bytes that are held,
 // which begin a line or a sheet.
 #[derive(Drop)]
+#[derive(Clone, Copy)]
 pub struct Stream {
     pub stage: Stage,
     pub batch: frames::Batch,

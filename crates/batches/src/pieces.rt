@@ -116,7 +116,7 @@ fn unheld_piece(
             written: fed.written,
         };
     }
-    let left = bytes::copy(&input[from..], held);
+    let left = placed_answers::copy(&input[from..], held);
     PieceResult {
         refusal: 0,
         stream: Stream {
@@ -232,7 +232,7 @@ fn held_piece(
     let before = s.held;
     let count = joining(before, input.len());
     let joined = before + count;
-    bytes::copy(&input[..count], &mut held[before..]);
+    placed_answers::copy(&input[..count], &mut held[before..]);
     let fed = crate::feeding::feed(stage, batch, &held[..joined], output, rows, relations);
     if fed.taken == 0 {
         return untaken(fed, before, joined, input.len());

@@ -19,6 +19,7 @@ pub const TEXT: usize = 24 * CLIENTS;
 
 // The sheets still to come, and the answers so far, client 1 first.
 #[derive(Drop)]
+#[derive(Clone, Copy)]
 pub struct Batch {
     pub left: usize,
     pub accepted: [usize; CLIENTS],

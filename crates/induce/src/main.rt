@@ -2,12 +2,13 @@
 // the refusal alone on a line. What is written for which sheet is proved of `differential::write_recurrence` and
 // `frames::refusal_line`; that the bytes come from standard input and go to standard output is for the reader's eye. A
 // read that fails is not the end of the sheet: nothing is written then.
-ghost use Rattle.std.specs.Prelude.{◌≡◌, length};
-ghost use Rattle.io.specs.Counts.{IsPrefixLen};
+#![tactic(auto)]
+
+ghost use Rattle.std.specs.Prelude.{◌≡◌, ◌≤◌, IfSome, length, take};
 ghost use Rattle.differential.specs.Longer.{most_sheet_bytes};
 ghost use Rattle.differential.specs.WrittenLength.{most_recurrence_bytes};
 
-use libc::{STDERR_FILENO, STDIN_FILENO, STDOUT_FILENO};
+use std::io::Read;
 
 // As many bytes as any fault needs: more input is read as these first bytes are (`write-window` of `differential`).
 fn input() -> [u8; 10501]
@@ -23,14 +24,18 @@ fn room() -> [u8; 25223]
     [0; 25223]
 }
 
-// Input, read into the store: the number of bytes, 0 at the end of the input. Where that fails, the number is negative,
-// and standard error says so.
-fn get(input: &mut [u8]) -> isize {
-    let got = libc::read(STDIN_FILENO, input);
-    if got < 0 {
-        io::write_all(STDERR_FILENO, b"induce: standard input cannot be read\n");
+// Input, read into the store: the number of bytes, 0 at the end of the input. Where that fails, there is no number, and
+// standard error says so.
+fn get(rt: &(impl Input + Eprint), input: &mut [u8]) -> Option<usize>
+    ensures { IfSome result (λ count. count ≤ length input.new) }
+{
+    match rt.reader().read(input) {
+        Ok(count) => Some(count),
+        Err(_) => {
+            let _ = rt.eprintln("induce: standard input cannot be read");
+            None
+        }
     }
-    got
 }
 
 // How many bytes have been read, and whether a read has failed.
@@ -41,18 +46,20 @@ struct Filled {
 }
 
 // Input up to its end, or as much as the store holds.
-fn fill(sheet: &mut [u8]) -> Filled
-    ensures { IsPrefixLen result.count sheet.new }
+fn fill(rt: &(impl Input + Eprint), sheet: &mut [u8]) -> Filled
+    ensures in_bounds { result.count ≤ length sheet.new }
+    ensures counted { result.count ≡ length (take result.count sheet.new) }
 {
     let mut count = 0;
     while count < sheet.len() {
-        let got = get(&mut sheet[count..]);
-        let taken = io::count(got, &sheet[count..]);
-        if taken == 0 {
+        let Some(taken) = get(rt, &mut sheet[count..]) else {
             return Filled {
                 count,
-                failed: got < 0,
+                failed: true,
             };
+        };
+        if taken == 0 {
+            break;
         }
         count += taken;
     }
@@ -63,35 +70,34 @@ fn fill(sheet: &mut [u8]) -> Filled
 }
 
 // Output, written at once. Where that fails, standard error says so.
-fn put(text: &[u8]) -> bool {
-    let written = io::write_all(STDOUT_FILENO, text);
-    if !written {
-        io::write_all(
-            STDERR_FILENO,
-            b"induce: standard output cannot be written\n",
-        );
+fn put(rt: &(impl Print + Eprint), text: &[u8]) -> bool {
+    match rt.write_all(text) {
+        Ok(()) => true,
+        Err(_) => {
+            let _ = rt.eprintln("induce: standard output cannot be written");
+            false
+        }
     }
-    written
 }
 
 // The refusal's line, and the sheet of the recurrence behind it.
-fn answer(sheet: &[u8]) {
+fn answer(rt: &(impl Print + Eprint), sheet: &[u8]) {
     let mut output = room();
     let written = differential::write_recurrence(sheet, &mut output);
     let line = frames::refusal_line(written.refusal);
     let text = line.bytes;
     let end = line.length;
-    if put(&text[..end]) {
+    if put(rt, &text[..end]) {
         let length = written.length;
-        put(&output[..length]);
+        put(rt, &output[..length]);
     }
 }
 
-fn main() {
+fn main(rt: HostRuntime) {
     let mut sheet = input();
-    let filled = fill(&mut sheet);
+    let filled = fill(&rt, &mut sheet);
     if !filled.failed {
         let count = filled.count;
-        answer(&sheet[..count]);
+        answer(&rt, &sheet[..count]);
     }
 }

@@ -5,6 +5,8 @@
 // for each of the W equations, then `right J: COEFFICIENTS` for each, its diagonal polynomial and its right side from
 // power 0 up, as the access to the row store gives them (SCOPE 3.41, 3.45); then the sheet that the run leaves: W
 // equations, and their column order.
+#![tactic(auto)]
+
 ghost use Rattle.std.specs.Prelude.{◌≡◌, true, false, ◌+◌, ◌≤◌, length};
 
 use elimination::RunResult;
@@ -35,12 +37,7 @@ fn stands(input: &[u8], at: usize, word: &[u8]) -> bool
     requires { at ≤ length input.now }
     ensures { result ≡ true → at + length word.now ≤ length input.now }
 {
-    let size = word.len();
-    if input.len() - at < size {
-        return false;
-    }
-    let to = at + size;
-    check::same(&input[at..to], word)
+    input[at..].starts_with(word)
 }
 
 // The sheet whose byte count stands from a place on.
@@ -74,87 +71,100 @@ fn case_at(input: &[u8], at: usize) -> Case
     broken()
 }
 
-fn print_root(r: RunResult) {
-    print(b" root");
+fn print_root(rt: &impl Print, r: RunResult) {
+    print(rt, b" root");
     if r.has_root {
-        print_signed(r.root);
+        print_signed(rt, r.root);
     } else {
-        print(b" none");
+        print(rt, b" none");
     }
 }
 
-fn print_result(r: RunResult, trailing: bool) {
+fn print_result(rt: &impl Print, r: RunResult, trailing: bool) {
     if trailing {
-        print(b"trailing");
-        print_size(r.refusal as u64);
+        print(rt, b"trailing");
+        print_size(rt, r.refusal as u64);
     } else {
-        print(b"leading");
-        print_size(r.refusal as u64);
-        print(b" relations");
-        print_size(r.relations as u64);
+        print(rt, b"leading");
+        print_size(rt, r.refusal as u64);
+        print(rt, b" relations");
+        print_size(rt, r.relations as u64);
     }
-    print(b" shifts");
-    print_size(r.shifts as u64);
-    print_root(r);
-    print(b" rank");
-    print_size(r.rank as u64);
-    print(b" mult");
-    print_size(r.multiplicity as u64);
-    print(b"\n");
+    print(rt, b" shifts");
+    print_size(rt, r.shifts as u64);
+    print_root(rt, r);
+    print(rt, b" rank");
+    print_size(rt, r.rank as u64);
+    print(rt, b" mult");
+    print_size(rt, r.multiplicity as u64);
+    print(rt, b"\n");
 }
 
 // The coefficients from power 0 up to the highest that is not 0; that of power 0 in any case.
-fn print_polynomial(p: &[i64]) {
+fn print_polynomial(rt: &impl Print, p: &[i64]) {
     let degree = polynomials::content::degree(p);
-    let mut power = 0;
-    while power < p.len() && power <= degree {
-        print_signed(p[power]);
-        power += 1;
+    for (power, coefficient) in p.iter().enumerate() {
+        if degree < power {
+            break;
+        }
+        print_signed(rt, *coefficient);
     }
-    print(b"\n");
+    print(rt, b"\n");
 }
 
 // The word and number that a line begins with.
-fn print_label(word: &[u8], row: usize) {
-    print(word);
-    print_size(row as u64);
-    print(b":");
+fn print_label(rt: &impl Print, word: &[u8], row: usize) {
+    print(rt, word);
+    print_size(rt, row as u64);
+    print(rt, b":");
 }
 
 // The polynomial of each row in the block and in the row's own column (SCOPE 2.72, 2.93).
-fn print_diagonal(rows: &[i64], sizes: Sizes, block: i64, order: [usize; 4]) {
-    let mut row = 0;
-    while row < 4 && row < sizes.equations {
-        let column = order[row];
-        row += 1;
-        print_label(b"diagonal", row);
-        print_polynomial(elimination::polynomial(rows, sizes, row, block, column));
+fn print_diagonal(rt: &impl Print, rows: &[i64], sizes: Sizes, block: i64, order: [usize; 4]) {
+    for row in 0..sizes.equations.min(4) {
+        print_label(rt, b"diagonal", row + 1);
+        print_polynomial(
+            rt,
+            elimination::polynomial(rows, sizes, row + 1, block, order[row]),
+        );
     }
 }
 
-fn print_right_sides(rows: &[i64], sizes: Sizes) {
-    let mut row = 0;
-    while row < sizes.equations {
-        row += 1;
-        print_label(b"right", row);
-        print_polynomial(elimination::right_side(rows, sizes, row));
+fn print_right_sides(rt: &impl Print, rows: &[i64], sizes: Sizes) {
+    for row in 1..=sizes.equations {
+        print_label(rt, b"right", row);
+        print_polynomial(rt, elimination::right_side(rows, sizes, row));
     }
 }
 
-fn print_sheet(rows: &[i64], relations: &[i64], sizes: Sizes, count: usize, order: [usize; 4]) {
-    let mut bytes = io::large_buffer();
+fn print_sheet(
+    rt: &impl Print,
+    rows: &[i64],
+    relations: &[i64],
+    sizes: Sizes,
+    count: usize,
+    order: [usize; 4],
+) {
+    let mut bytes = inputs::large_buffer();
     let written = sheets::write_sheet(rows, relations, sizes, count, order, &mut bytes);
     let length = written.length;
-    print(&bytes[..length]);
+    print(rt, &bytes[..length]);
 }
 
 // What an accepted run leaves: on the leading side the diagonal stands in block l, on the trailing side in block t.
-fn print_accepted(rows: &[i64], relations: &[i64], sizes: Sizes, r: RunResult, trailing: bool) {
+fn print_accepted(
+    rt: &impl Print,
+    rows: &[i64],
+    relations: &[i64],
+    sizes: Sizes,
+    r: RunResult,
+    trailing: bool,
+) {
     let order = r.order;
     let block = if trailing { sizes.t } else { sizes.l };
-    print_diagonal(rows, sizes, block, order);
-    print_right_sides(rows, sizes);
-    print_sheet(rows, relations, sizes, r.relations, order);
+    print_diagonal(rt, rows, sizes, block, order);
+    print_right_sides(rt, rows, sizes);
+    print_sheet(rt, rows, relations, sizes, r.relations, order);
 }
 
 fn run_side(
@@ -185,17 +195,17 @@ fn refused(refusal: u8) -> RunResult {
     }
 }
 
-fn run_sheet(sheet: &[u8], trailing: bool) {
+fn run_sheet(rt: &impl Print, sheet: &[u8], trailing: bool) {
     let mut rows = [0i64; ROWS];
     let mut relations = [0i64; RELATIONS];
     let read = sheets::read_sheet(sheet, &mut rows, &mut relations);
     if read.refusal != 0 {
-        print_result(refused(read.refusal), trailing);
+        print_result(rt, refused(read.refusal), trailing);
         return;
     }
     let sizes = read.sizes;
     let r = run_side(&mut rows, &mut relations, sizes, read.relations, trailing);
-    print_result(r, trailing);
+    print_result(rt, r, trailing);
     if r.refusal == 0 {
         let kept = Sizes {
             m: sizes.m,
@@ -203,28 +213,28 @@ fn run_sheet(sheet: &[u8], trailing: bool) {
             l: sizes.l,
             t: sizes.t,
         };
-        print_accepted(&rows, &relations, kept, r, trailing);
+        print_accepted(rt, &rows, &relations, kept, r, trailing);
     }
 }
 
 // Every case, up to one that is broken.
-fn run_cases(input: &[u8]) {
+fn run_cases(rt: &impl Print, input: &[u8]) {
     let mut at = 0;
     while at < input.len() {
         let case = case_at(input, at);
         let from = case.from;
         let to = case.to;
         if to <= at {
-            print(b"broken\n");
+            print(rt, b"broken\n");
             return;
         }
-        run_sheet(&input[from..to], case.trailing);
+        run_sheet(rt, &input[from..to], case.trailing);
         at = to;
     }
 }
 
-fn main() {
-    let mut store = io::large_buffer();
-    let count = io::read_full(libc::STDIN_FILENO, &mut store);
-    run_cases(&store[..count]);
+fn main(rt: HostRuntime) {
+    let mut store = inputs::large_buffer();
+    let count = inputs::read_full(&rt, &mut store);
+    run_cases(&rt, &store[..count]);
 }

@@ -35,6 +35,17 @@ pub fn clear(output: &mut [u8])
     }
 }
 
+// The source at the front of the target, which has room for it: the number of bytes copied.
+pub fn copy(source: &[u8], target: &mut [u8]) -> usize
+    requires { length source.now ≤ length target.old }
+    ensures count { result ≡ length source.now }
+    ensures target_after { target.new ≡ overwrite source.now target.old }
+{
+    let count = source.len();
+    target[..count].copy_from_slice(source);
+    count
+}
+
 // Lines of text at the front of the output.
 pub fn put_text(output: &mut [u8], text: frames::Text)
     requires { (text.length ≤ text_room) × (text.length ≤ length output.old) }
@@ -42,7 +53,7 @@ pub fn put_text(output: &mut [u8], text: frames::Text)
 {
     let length = text.length;
     let lines = text.bytes;
-    bytes::copy(&lines[..length], output);
+    copy(&lines[..length], output);
 }
 
 // The answer worked out beside the output, and copied where it fits.
@@ -64,7 +75,7 @@ fn put_beside(sheet: &[u8], output: &mut [u8], rows: &mut [i64], relations: &mut
             written: 0,
         };
     }
-    bytes::copy(&beside[..length], &mut output[from..]);
+    copy(&beside[..length], &mut output[from..]);
     put_text(output, line);
     Put {
         fits: true,

@@ -1,28 +1,24 @@
-// Words and numbers on standard output, for the programs that print values. No contract can say what is written.
+// Words and numbers on standard output, for the programs that print values. No contract can say what is written, and a
+// write that fails is passed over.
+#![tactic(auto)]
+
 ghost use Rattle.std.specs.Prelude.{◌≡◌};
 
-use libc::STDOUT_FILENO;
-
-pub fn print(word: &[u8])
+pub fn print(rt: &impl Print, word: &[u8])
     ensures { result ≡ tt }
 {
-    io::write_all(STDOUT_FILENO, word);
+    let _ = rt.write_all(word);
 }
 
 // A space and a number.
-pub fn print_size(n: u64)
+pub fn print_size(rt: &impl Print, n: u64)
     ensures { result ≡ tt }
 {
-    print(b" ");
-    io::print_decimal(STDOUT_FILENO, n);
+    let _ = print!(rt; " {n}");
 }
 
-pub fn print_signed(a: i64)
+pub fn print_signed(rt: &impl Print, a: i64)
     ensures { result ≡ tt }
 {
-    print(b" ");
-    if integers::is_negative(a) {
-        print(b"-");
-    }
-    io::print_decimal(STDOUT_FILENO, integers::magnitude(a));
+    let _ = print!(rt; " {a}");
 }

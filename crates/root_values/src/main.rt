@@ -1,11 +1,12 @@
 // Prints the integer roots of the polynomials on standard input, ascending, and then the smallest and the largest. The input is a line that
 // says how often each polynomial is searched (1 but where a search is measured), and for each polynomial a line with its 16
 // coefficients, from power 0 up. The last line says how many roots all searches together have found.
+#![tactic(auto)]
+
 ghost use Rattle.std.specs.Prelude.{◌≡◌, ◌^◌, ◌<◌, ◌≤◌, T, length};
 ghost use Rattle.rules.specs.Limits.{small};
 ghost use Rattle.lists.specs.Tests.{every};
 
-use libc::STDIN_FILENO;
 use multiplicities::RootsWith;
 use printing::{print, print_signed, print_size};
 
@@ -104,55 +105,49 @@ fn found_by(p: &[i64], searches: u64) -> u64
     requires { (length p.now ≡ 16) × T (every small p.now) }
 {
     let mut found: u64 = 0;
-    let mut left = searches;
-    while 0 < left {
+    for _ in 0..searches {
         let all = multiplicities::roots_with(p);
-        found = std::num::wrapping_add_u64(found, all.count as u64);
-        left -= 1;
+        found = found.wrapping_add(all.count as u64);
     }
     found
 }
 
-fn print_list(all: RootsWith)
+fn print_list(rt: &impl Print, all: RootsWith)
     requires { all.count ≤ 16 }
 {
-    let n = all.count;
-    let values = all.values;
-    let mut i = 0;
-    while i < n {
-        print_signed(values[i]);
-        i += 1;
+    for value in &all.values[..all.count] {
+        print_signed(rt, *value);
     }
 }
 
-fn print_roots(p: &[i64])
+fn print_roots(rt: &impl Print, p: &[i64])
     requires { (length p.now ≡ 16) × T (every small p.now) }
 {
-    print(b"roots");
-    print_list(multiplicities::roots_with(p));
+    print(rt, b"roots");
+    print_list(rt, multiplicities::roots_with(p));
     let least = multiplicities::smallest_with(p);
     let most = multiplicities::largest_with(p);
     if least.found {
-        print(b" from");
-        print_signed(least.root);
-        print(b" to");
-        print_signed(most.root);
+        print(rt, b" from");
+        print_signed(rt, least.root);
+        print(rt, b" to");
+        print_signed(rt, most.root);
     }
-    print(b"\n");
+    print(rt, b"\n");
 }
 
 // A polynomial with a coefficient past ±C is passed over.
-fn searched(p: &[i64; COEFFICIENTS], searches: u64) -> u64 {
+fn searched(rt: &impl Print, p: &[i64; COEFFICIENTS], searches: u64) -> u64 {
     if stores::checks::all_small(p) {
-        print_roots(p);
+        print_roots(rt, p);
         found_by(p, searches)
     } else {
-        print(b"a coefficient is too large\n");
+        print(rt, b"a coefficient is too large\n");
         0
     }
 }
 
-fn searched_all(bytes: &[u8]) -> u64
+fn searched_all(rt: &impl Print, bytes: &[u8]) -> u64
     requires { 0 < length bytes.now }
 {
     let first = number_at(bytes, 0);
@@ -162,19 +157,19 @@ fn searched_all(bytes: &[u8]) -> u64
     while at < bytes.len() {
         let next = polynomial_at(bytes, at);
         let values = next.values;
-        found = std::num::wrapping_add_u64(found, searched(&values, searches));
+        found = found.wrapping_add(searched(rt, &values, searches));
         at = next.next;
     }
     found
 }
 
-fn main() {
-    let mut input = io::large_buffer();
-    let count = io::read_full(STDIN_FILENO, &mut input);
+fn main(rt: HostRuntime) {
+    let mut input = inputs::large_buffer();
+    let count = inputs::read_full(&rt, &mut input);
     if 0 < count {
-        let found = searched_all(&input[..count]);
-        print(b"found");
-        print_size(found);
-        print(b"\n");
+        let found = searched_all(&rt, &input[..count]);
+        print(&rt, b"found");
+        print_size(&rt, found);
+        print(&rt, b"\n");
     }
 }
