@@ -1,5 +1,7 @@
 // The public runs on lent stores, `run_leading` and `run_trailing`, and the access to one polynomial or right side of a row
 // store: no `requires`, and contracts that give the result and each lent store by equations with `rules` (SCOPE 9.1, 9.2).
+#![tactic(auto)]
+
 ghost use Rattle.std.specs.Prelude.{◌≡◌};
 ghost use Rattle.rules.specs.Elimination.{leading, trailing};
 ghost use Rattle.rules.specs.Calls.{call_run, polynomial_check, polynomial_part, right_side_check, right_side_part};
