@@ -149,6 +149,8 @@ class Function:
             given = re.fullmatch(r"t([1-9]\d*)", steps[k])
             if given and (base if k == 0 else steps[k - 1]) == "args" and int(given[1]) <= len(self.arguments):
                 steps[k] = self.arguments[int(given[1]) - 1]
+        if base in self.given:
+            return base + "." + ".".join(steps)
         if base in self.step_names:
             self.bases.add("c")
             label = "c." + self.labels[self.step_names[base]]
