@@ -9,8 +9,8 @@
 --   add-three            a term's polynomial changes the first three numbers of a polynomial
 --   row_of-added          the row of those numbers is `add_term_of`
 --   added-within         no number grows by more than `term_bound`
-use Prim.Native.Nat.{ℕ, zero, suc, pred, max, ◌+◌, ◌*◌, ◌-◌, ◌≤◌, ◌<◌, zero-le}
-use Rattle.std.proofs.Common.{le_of_eq, suc-ne-zero, arith, sym, ◌∙◌, subst, length-drop, length-take-le}
+use Prim.Native.Nat.{ℕ, zero, suc, pred, max, ◌+◌, ◌*◌, ◌≤◌, ◌<◌}
+use Rattle.std.proofs.Common.{le_of_eq, suc-ne-zero, arith, sym, ◌∙◌, length-drop, length-take-le}
 use Rattle.std.proofs.Math.Nat.{suc_inj}
 use Rattle.std.specs.Prelude.{◌≡◌, refl, List, [], ◌∷◌, ◌++◌, length, drop, get_or, ℤ, pos, neg_ℤ, nat_abs, ◌+ℤ◌, ◌*ℤ◌}
 use Rattle.std.proofs.Math.Path.{ap, ap₂}
@@ -24,7 +24,7 @@ use Rattle.rules.specs.Limits.{coefficient_count, column_count, block_count, blo
 use Rattle.rules.specs.Stores.{row_of}
 use Rattle.rules.specs.Layout.{polynomial-at-row}
 use Rattle.reading.specs.Equations.{row_of-paste}
-use Rattle.differential.specs.Differential.{DifferentialTerm, most_derivative, most_power, factor_bound}
+use Rattle.differential.specs.Differential.{DifferentialTerm, most_derivative, factor_bound}
 use Rattle.differential.specs.Recurrence.{rising, term_polynomial, place_of, add_term_of}
 use Rattle.differential.specs.Terms.{length-term_polynomial}
 use Rattle.differential.specs.ValidRecurrence.{Within, term_bound, term-bounded, add-within}

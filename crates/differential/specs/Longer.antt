@@ -19,8 +19,8 @@ use Rattle.std.specs.Int.Signed.{le_z}
 use Rattle.lists.specs.Everywhere.{All, all-mono}
 use Rattle.lists.specs.Tests.{T-&&, cond-zero}
 use Rattle.rules.specs.Limits.{column_count, most_equations}
-use Rattle.rules.specs.Numbers.{newline, got, fault, then_read, between}
-use Rattle.rules.specs.Sheets.{parting}
+use Rattle.rules.specs.Numbers.{space, newline, got, fault, then_read, between}
+use Rattle.rules.specs.Sheets.{always, parting}
 use Rattle.rules.specs.SheetCalls.{after_read}
 use Rattle.tokens.specs.Exact.{fault-got, got-inj}
 use Rattle.tokens.specs.Windows.{number_line}
@@ -87,11 +87,11 @@ pub record ExtentRight (x : Extent) : Type 0 where
 extent-decides : Decides (5 * number_line) ExtentRight read_extent
 unfolding read_extent
 extent-decides =
-    then-decides (field-decides _ _) λ three _.
-    then-decides (field-decides _ _) λ m hm.
-    then-decides (field-decides _ _) λ K hK.
-    then-decides (field-decides _ _) λ J hJ.
-    then-decides (field-decides _ _) λ n hn.
+    then-decides (field-decides (between (pos 3) (pos 3)) (always space)) λ three _.
+    then-decides (field-decides (between (pos 1) (pos column_count)) (always space)) λ m hm.
+    then-decides (field-decides (between (pos 0) (pos most_derivative)) (always space)) λ K hK.
+    then-decides (field-decides (between (pos 0) (pos most_power)) (always newline)) λ J hJ.
+    then-decides (field-decides (between (pos 0) (pos most_equations)) (always newline)) λ n hn.
     nothing-decides _ (record {
       unknowns-least = (between-ranged 1 column_count m hm).0;
       unknowns-most = (between-ranged 1 column_count m hm).1;

@@ -8,29 +8,29 @@
 --   term-right           what is known of a term that was read
 --   row_is               an equation is its count and then its terms, added as they are read
 --   terms-begin, terms-refused, terms-go-on, terms-end   the terms of an equation, one after another
-use Prim.Native.Nat.{ℕ, zero, suc, ◌+◌, ◌*◌, ◌-◌, ◌≤◌, ◌<◌, zero-le, suc-le-suc}
+use Prim.Native.Nat.{ℕ, suc, ◌+◌, ◌*◌, ◌-◌, ◌≤◌, ◌<◌, zero-le, suc-le-suc}
 use Rattle.std.proofs.Math.Nat.{le_refl}
-use Rattle.std.proofs.Common.{le_trans, mul-le-mul, arith, ap₂, ◌∙◌, subst, leb-true}
-use Rattle.std.specs.Prelude.{◌≡◌, refl, Bool, true, false, ◌&&◌, ◌||◌, cond, List, [], ◌∷◌, map, drop, T, leb, ltb, ℤ, pos, nat_abs}
+use Rattle.std.proofs.Common.{le_trans, mul-le-mul, arith, ◌∙◌, subst, leb-true}
+use Rattle.std.specs.Prelude.{◌≡◌, refl, Bool, true, false, ◌&&◌, ◌||◌, cond, List, ◌∷◌, drop, T, leb, ltb, ℤ, pos, nat_abs}
 use Rattle.std.proofs.Math.Path.{sym, ap}
 use Rattle.std.proofs.Math.ListN.{length}
 use Rattle.std.specs.Int.Signed.{le_z, non_neg}
 use Rattle.algebra.specs.Polynomials.{is_zero_ℤ}
 use Rattle.lists.specs.Everywhere.{All, all_replicate}
-use Rattle.rules.specs.Limits.{bound, column_count, row_length}
+use Rattle.rules.specs.Limits.{column_count, row_length}
 use Rattle.rules.specs.Calls.{zeros}
 use Rattle.rules.specs.Rows.{Row}
 use Rattle.rules.specs.Stores.{row_of}
 use Rattle.rules.specs.Numbers.{space, newline, Read, got, fault, then_read, field, between}
 use Rattle.rules.specs.Sheets.{always, after_count_of, parting, blank_row}
-use Rattle.tokens.specs.Fields.{then-got, then-fault, then-cong, then-then, then-parts, field-judged, passed, between-size, between-zero}
+use Rattle.tokens.specs.Fields.{then-got, then-fault, then-cong, then-then, then-parts, field-judged, passed, between-size}
 use Rattle.reading.specs.Equations.{got-value, zeros-blank}
 use Rattle.reading.specs.Zeros.{length-zeros}
 use Rattle.differential.specs.Differential.{DifferentialTerm, factor_bound, most_derivative, most_power, most_terms_of, ValidTerm}
 use Rattle.differential.specs.Recurrence.{add_term_of, add_terms, recurrence_row}
 use Rattle.differential.specs.Grammar.{Extent, judge_ordered_of, judge_factor_of, first_power_of, first_column_of, no_term_of, read_term, read_terms, most_of}
-use Rattle.differential.specs.Grammar.{read_equation, read_equations}
-use Rattle.differential.specs.Read.{SmallExtent, SmallBefore, SmallPlace, read_place}
+use Rattle.differential.specs.Grammar.{read_equation}
+use Rattle.differential.specs.Read.{SmallExtent, SmallBefore, SmallPlace}
 use Rattle.differential.specs.ValidRecurrence.{Within, term_bound}
 use Rattle.differential.specs.Added.{added_at, added-long, added-within, row_of-added}
 
@@ -87,9 +87,14 @@ term-right x before last bytes e =
     (field (judge_ordered_of 1 x.unknowns (first_column_of before (nat_abs k.0) (nat_abs j.0)) x.unknowns) (always space) j.1) _
     j.3 in
     let a = then-parts (field judge_factor_of (always last) c.1) _ c.3 in
-    let hk = ordered-zero _ _ _ _ k.0 (field-judged _ (always space) bytes k.2) in
-    let hj = ordered-zero _ _ _ _ j.0 (field-judged _ (always space) k.1 j.2) in
-    let hc = ordered-zero _ _ _ _ c.0 (field-judged _ (always space) j.1 c.2) in
+    let hk = ordered-zero 0 x.order 0 before.derivative k.0
+    (field-judged (judge_ordered_of 0 x.order 0 before.derivative) (always space) bytes k.2) in
+    let first = first_power_of before (nat_abs k.0) in
+    let hj = ordered-zero 0 x.degree first x.degree j.0
+    (field-judged (judge_ordered_of 0 x.degree first x.degree) (always space) k.1 j.2) in
+    let leftmost = first_column_of before (nat_abs k.0) (nat_abs j.0) in
+    let hc = ordered-zero 1 x.unknowns leftmost x.unknowns c.0
+    (field-judged (judge_ordered_of 1 x.unknowns leftmost x.unknowns) (always space) j.1 c.2) in
     let ha = factor-zero a.0 (field-judged judge_factor_of (always last) c.1 a.2) in
     subst (ValidTerm x.unknowns x.order x.degree) (got-value a.3)
     (record { derivative-most = hk.2; power-most = hj.2; column-least = hc.1; column-most = hc.2; factor-most = ha })

@@ -8,7 +8,7 @@
 --   add_term-value    adding a term adds what the term means; add_terms-value: and so adding several
 --   add_terms-right   the right side of the row stays
 --   row-value        the value of an equation's row at n is the coefficient of the equation's sum
-use Prim.Native.Nat.{ℕ, zero, suc, ◌+◌, ◌-◌, ◌≤◌, ◌<◌, pred, max, zero-le}
+use Prim.Native.Nat.{ℕ, zero, suc, ◌+◌, ◌≤◌, ◌<◌, pred, max, zero-le}
 use Rattle.std.proofs.Common.{not-suc-le-zero, le_of_suc-le-suc, arith, ◌∙◌, subst}
 use Rattle.std.specs.Prelude.{◌≡◌, refl, T, length, set, replicate, ℤ, neg_ℤ, ◌+ℤ◌, ◌-ℤ◌, ◌*ℤ◌}
 use Rattle.std.proofs.Math.Path.{sym, ap, ap₂}

@@ -1,6 +1,8 @@
 // Differential sheets: equations in the variable, read as the recurrences that the coefficients of their series satisfy. `read_differential`
 // and `write_recurrence` are the public entry points: no `requires`, and a contract that gives the result and every lent store by
 // equations.
+#![tactic(auto)]
+
 ghost use Rattle.std.specs.Prelude.{◌≡◌};
 ghost use Rattle.stores.specs.Validity.{the_sizes_of};
 ghost use Rattle.reading.specs.ReadCalls as ReadCalls;

@@ -4,15 +4,13 @@ use mathlib.Core.Path.{◌≡◌, refl}
 use mathlib.Core.Logic.{◌⊎◌, inl, inr, ⊎_elim}
 use Prim.Native.Nat.{ℕ, ◌≤◌}
 use native.Mathlib.Omega.{arith}
-use borrow.Author.Rules.{rules}
 use lib.Dec.{lit≤}
 use mir.Facts.{sfits_lit}
 use Rattle.lists.specs.Padded.{pad_to}
 use Rattle.differential.specs.Differential.{most_derivative, most_power}
 use Rattle.differential.specs.Recurrence as Recurrence
 use Rattle.differential.specs.ValidRecurrence.{up-to-two}
-use Rattle.differential.proofs.rows.rising.Statement.{statement}
-use Rattle.differential.proofs.rows.rising.Tie as tie
+use Rattle.differential.proofs.rows.rising.Goals as goal
 
 -- The power is one of three.
 power-is : (j : ℕ) → j ≤ most_power → (j ≡ 0) ⊎ ((j ≡ 1) ⊎ (j ≡ 2))
@@ -22,70 +20,50 @@ power-is = up-to-two (λ j. (j ≡ 0) ⊎ ((j ≡ 1) ⊎ (j ≡ 2))) (inl refl) 
 last : (k : ℕ) → k ≤ most_derivative → (k ≡ 0 → ⊥) → (k ≡ 1 → ⊥) → k ≡ 2
 last k h f g = omega arith
 
-cast-first : tie.Need-overflow-cast-first
-cast-first c = search rules
-
-sub-first : tie.Need-overflow-sub-first
-sub-first c =
+pub overflow_sub-first : goal.overflow_sub-first
+overflow_sub-first c =
     ⊎_elim (λ e. rw e (sfits_lit tt)) (λ w. ⊎_elim (λ e. rw e (sfits_lit tt)) (λ e. rw e (sfits_lit tt)) w)
     (power-is c.args.power c.requires.1)
 
-cast-second : tie.Need-overflow-cast-second
-cast-second c = search rules
-
-sub-second : tie.Need-overflow-sub-second
-sub-second c =
+pub overflow_sub-second : goal.overflow_sub-second
+overflow_sub-second c =
     ⊎_elim (λ e. rw e (sfits_lit tt)) (λ w. ⊎_elim (λ e. rw e (sfits_lit tt)) (λ e. rw e (sfits_lit tt)) w)
     (power-is c.args.power c.requires.1)
 
-returns : tie.Need-returns
+pub returns-then-derivative-eq0 : goal.returns-then-derivative-eq0
 unfolding Recurrence.rising pad_to
-returns c =
-    rw c.if1.true
+returns-then-derivative-eq0 c =
+    rw c.if-derivative-eq0.true
     (record { are = refl; short = lit≤ tt; constant-small = lit≤ tt; linear-small = lit≤ tt; square-small = lit≤ tt })
 
-returns-2 : tie.Need-returns-2
+pub returns-then-derivative-eq1 : goal.returns-then-derivative-eq1
 unfolding Recurrence.rising pad_to
-returns-2 c =
-    rw c.if2.true
+returns-then-derivative-eq1 c =
+    rw c.if-derivative-eq1.true
     (⊎_elim
     (λ e. rw e (record { are = refl; short = lit≤ tt; constant-small = lit≤ tt; linear-small = lit≤ tt; square-small = lit≤ tt }))
     (λ w. ⊎_elim
     (λ e. rw e (record { are = refl; short = lit≤ tt; constant-small = lit≤ tt; linear-small = lit≤ tt; square-small = lit≤ tt }))
     (λ e. rw e (record { are = refl; short = lit≤ tt; constant-small = lit≤ tt; linear-small = lit≤ tt; square-small = lit≤ tt })) w)
-    (power-is c.before.before.args.power c.before.before.requires.1))
+    (power-is c.args.power c.requires.1))
 
-mul-t5 : tie.Need-overflow-mul-t5
-mul-t5 c =
+pub overflow_mul-result : goal.overflow_mul-result
+overflow_mul-result c =
     ⊎_elim (λ e. rw e (sfits_lit tt)) (λ w. ⊎_elim (λ e. rw e (sfits_lit tt)) (λ e. rw e (sfits_lit tt)) w)
-    (power-is c.before.before.args.power c.before.before.requires.1)
+    (power-is c.args.power c.requires.1)
 
-add-t7 : tie.Need-overflow-add-t7
-add-t7 c =
+pub overflow_add-result : goal.overflow_add-result
+overflow_add-result c =
     ⊎_elim (λ e. rw e (sfits_lit tt)) (λ w. ⊎_elim (λ e. rw e (sfits_lit tt)) (λ e. rw e (sfits_lit tt)) w)
-    (power-is c.before.before.args.power c.before.before.requires.1)
+    (power-is c.args.power c.requires.1)
 
-returns-3 : tie.Need-returns-3
+pub returns : goal.returns
 unfolding Recurrence.rising pad_to
-returns-3 c =
-    rw (last c.before.before.args.derivative c.before.before.requires.0 c.before.if1.false c.if2.false)
+returns c =
+    rw (last c.args.derivative c.requires.0 c.if-derivative-eq0.false c.if-derivative-eq1.false)
     (⊎_elim
     (λ e. rw e (record { are = refl; short = lit≤ tt; constant-small = lit≤ tt; linear-small = lit≤ tt; square-small = lit≤ tt }))
     (λ w. ⊎_elim
     (λ e. rw e (record { are = refl; short = lit≤ tt; constant-small = lit≤ tt; linear-small = lit≤ tt; square-small = lit≤ tt }))
     (λ e. rw e (record { are = refl; short = lit≤ tt; constant-small = lit≤ tt; linear-small = lit≤ tt; square-small = lit≤ tt })) w)
-    (power-is c.before.before.args.power c.before.before.requires.1))
-
-pub rising-spec : {M : Type 1} → statement M
-rising-spec =
-    tie.close
-    (tie.spec
-    cast-first
-    sub-first
-    cast-second
-    sub-second
-    returns
-    returns-2
-    mul-t5
-    add-t7
-    returns-3)
+    (power-is c.args.power c.requires.1))
