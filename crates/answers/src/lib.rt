@@ -1,5 +1,7 @@
 // The answer to one sheet: read, run on the leading side and written, in stores that the caller lends. `batches` has the public entry
 // point.
+#![tactic(auto)]
+
 ghost use Rattle.std.specs.Prelude.{◌≡◌, ◌+◌, ◌*◌, ◌≤◌, min, pos, length, replicate};
 ghost use Rattle.std.proofs.Math.Seq.{paste};
 ghost use Rattle.rules.specs.Limits.{coefficient_count, relation_length, most_relations};

@@ -1,0 +1,20 @@
+-- `answers::clear_records` meets its contract. The loop's invariant: the first i records are cleared.
+-- Assumes nothing.
+use mathlib.Core.Path.{◌≡◌, refl, sym, ◌∙◌, ap}
+use Prim.Native.Nat.{ℕ, ◌+◌, ◌*◌, ◌≤◌, ◌-◌}
+use native.Mathlib.Nat.{zero-mul, mul-le-mul}
+use native.Mathlib.Omega.{arith}
+use borrow.Author.Rules.{rules}
+use lib.IntN.{pos}
+use lib.ListN.{length, replicate}
+use lib.Seq.{paste, paste-zero}
+use Rattle.rules.specs.Limits.{coefficient_count, relation_length, most_relations}
+use Rattle.answers.specs.ClearedRecords.{cleared_to, record-within, record-cleared}
+use Rattle.answers.proofs.clear_records.Given as goal
+
+abbrev pub invariant-loop-i : goal.invariant-loop-i
+invariant-loop-i l =
+    (l.i ≤ l.count) × ((length l.store ≡ length l.initial.store) × (l.store ≡ cleared_to l.initial.store l.size l.count (l.i * l.size)))
+
+abbrev pub decreases-loop-i : goal.decreases-loop-i
+decreases-loop-i l = l.count - l.i
