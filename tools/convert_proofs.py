@@ -16,8 +16,8 @@ WORD = r"[^\s(){}.;,@\"«»⌜⌝]+"
 TOKEN = re.compile(WORD)
 PATH = re.compile(rf"(?<![^\s(){{}};,«»])({WORD})((?:\.{WORD})+)|(?<=\))((?:\.{WORD})+)")
 HEAD = re.compile(r"^(?:use |--)")
-WORDS = {"pre": "requires", "good": "well_formed", "well-formed": "well_formed", "kept": "auto", "inv": "invariant", "taken": "true", "left": "false", "last": "new", "fits": "ranges", "came": "branch", "type-inv": "type_inv"}
-FIELDS = {"result", "ensures", "requires", "new", "auto", "given", "true", "false", "invariant", "is", "branch", "type_inv"}
+WORDS = {"pre": "requires", "good": "well_formed", "well-formed": "well_formed", "inv": "invariant", "taken": "true", "left": "false", "last": "new", "fits": "ranges", "came": "branch", "type-inv": "type_inv"}
+FIELDS = {"kept", "result", "ensures", "requires", "new", "auto", "given", "true", "false", "invariant", "is", "branch", "type_inv"}
 
 
 def plain(name):
@@ -184,6 +184,7 @@ class Function:
                 k += 1
                 if k < len(steps):
                     field = self.fields[step].get(plain(steps[k]), steps[k])
+                    field = "auto" if field == "kept" else field
                     field = {"type-inv": "type_inv", "ok": "type_inv", "kept": "auto"}.get(field, field)
                     out.append(field)
                     k += 1
