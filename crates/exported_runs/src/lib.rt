@@ -1,4 +1,6 @@
 // The result of a run as numbers of a lent store.
+#![tactic(auto)]
+
 ghost use Rattle.std.specs.Prelude.{◌≡◌, ◌≤◌, length};
 ghost use Rattle.rules.specs.Calls.{call_run};
 ghost use Rattle.stores.specs.Validity.{the_sizes_of};

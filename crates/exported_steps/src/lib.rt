@@ -1,4 +1,6 @@
 // The state and the result of a run by steps as numbers of lent stores.
+#![tactic(auto)]
+
 ghost use Rattle.std.specs.Prelude.{◌≡◌, ◌≤◌, length};
 ghost use Rattle.lists.specs.Overwritten.{overwrite};
 ghost use Rattle.stores.specs.Validity.{the_sizes_of};

@@ -4,7 +4,7 @@ use mathlib.Core.Path.{◌≡◌, ◌∙◌, ap}
 use mathlib.Core.List.{[], ◌∷◌, ◌++◌}
 use Prim.Native.Nat.{ℕ, ◌≤◌, zero-le}
 use native.Mathlib.Omega.{arith}
-use borrow.Author.Rules.{rules, sfits_of}
+use borrow.Author.Rules.{rules}
 use lib.IntN.{ℤ, pos}
 use lib.ListN.{get_or}
 use mir.Syntax.{w64}
@@ -15,11 +15,11 @@ use Rattle.rules.specs.Stores as Stores
 use Rattle.steps.specs.Handed.{held_of}
 use Rattle.steps.specs.HeldCalls.{state_numbers_of}
 use Rattle.export_results.specs.Results.{small-fits, small-value, four-columns}
-use Rattle.exported_steps.proofs.state_numbers.Statement.{statement}
-use Rattle.exported_steps.proofs.state_numbers.Tie as tie
+use Rattle.exported_steps.proofs.state_numbers.Goals as goal
+use Rattle.exported_steps.proofs.state_numbers.Goals.{Start}
 
 -- what is cast is small
-module _ (c : tie.Start) where
+module _ (c : Start) where
   unknowns : c.args.state.sizes.m ≤ 64
   unfolding held_of the_sizes_of
   unknowns = omega (arith, c.requires.few-unknowns)
@@ -44,77 +44,46 @@ module _ (c : tie.Start) where
   unfolding held_of
   shifts = omega (arith, c.requires.few-shifts)
 
-cast-t4 : tie.Need-overflow-cast-t4
-cast-t4 c = small-fits _ (unknowns c.before.before.before)
+pub overflow_cast-result : goal.overflow_cast-result
+overflow_cast-result c = small-fits _ (unknowns (goal.at.overflow_cast-result c).Start)
 
-cast-t5 : tie.Need-overflow-cast-t5
-cast-t5 c = small-fits _ (equations c.before.before.before.before)
+pub overflow_cast-result-2 : goal.overflow_cast-result-2
+overflow_cast-result-2 c = small-fits _ (equations (goal.at.overflow_cast-result-2 c).Start)
 
-cast-t6 : tie.Need-overflow-cast-t6
-cast-t6 c = small-fits _ (relations c.before.before.before.before.before)
+pub overflow_cast-result-3 : goal.overflow_cast-result-3
+overflow_cast-result-3 c = small-fits _ (relations (goal.at.overflow_cast-result-3 c).Start)
 
-cast-t7 : tie.Need-overflow-cast-t7
-cast-t7 c = small-fits _ (settled c.before.before.before.before.before.before)
+pub overflow_cast-result-4 : goal.overflow_cast-result-4
+overflow_cast-result-4 c = small-fits _ (settled (goal.at.overflow_cast-result-4 c).Start)
 
-array-read-t10 : tie.Need-array-read-t10
-array-read-t10 c = search rules
+pub overflow_cast-result-5 : goal.overflow_cast-result-5
+overflow_cast-result-5 c = small-fits _ (column (goal.at.overflow_cast-result-5 c).Start 0)
 
-cast-t11 : tie.Need-overflow-cast-t11
-cast-t11 c = small-fits _ (column c.before.before.before.before.before.before 0)
+pub overflow_cast-result-6 : goal.overflow_cast-result-6
+overflow_cast-result-6 c = small-fits _ (column (goal.at.overflow_cast-result-6 c).Start 1)
 
-array-read-t14 : tie.Need-array-read-t14
-array-read-t14 c = search rules
+pub overflow_cast-result-7 : goal.overflow_cast-result-7
+overflow_cast-result-7 c = small-fits _ (column (goal.at.overflow_cast-result-7 c).Start 2)
 
-cast-t15 : tie.Need-overflow-cast-t15
-cast-t15 c = small-fits _ (column c.before.before.before.before.before.before 1)
+pub overflow_cast-result-8 : goal.overflow_cast-result-8
+overflow_cast-result-8 c = small-fits _ (column (goal.at.overflow_cast-result-8 c).Start 3)
 
-array-read-t18 : tie.Need-array-read-t18
-array-read-t18 c = search rules
+pub overflow_cast-result-9 : goal.overflow_cast-result-9
+overflow_cast-result-9 c = small-fits _ (shifts (goal.at.overflow_cast-result-9 c).Start)
 
-cast-t19 : tie.Need-overflow-cast-t19
-cast-t19 c = small-fits _ (column c.before.before.before.before.before.before 2)
-
-array-read-t22 : tie.Need-array-read-t22
-array-read-t22 c = search rules
-
-cast-t23 : tie.Need-overflow-cast-t23
-cast-t23 c = small-fits _ (column c.before.before.before.before.before.before 3)
-
-cast-t24 : tie.Need-overflow-cast-t24
-cast-t24 c = small-fits _ (shifts c.before.before.before.before.before.before.before)
-
-returns : tie.Need-returns
+pub returns : goal.returns
 unfolding state_numbers_of held_of the_sizes_of Stores.equations
 returns c =
-    let start = c.before.before.before.before.before.before.before.before in
+    let start = (goal.at.returns c).Start in
     let state = start.args.state in
     let sizes = state.sizes in
     let order = state.order in
     let value : (j : ℕ) → ◌≡◌ {A = ℤ} _ (pos (get_or order j 0)) = λ j. small-value (get_or order j 0) (column start j) in
     (λ i. small-value sizes.m (unknowns start) i ∷ small-value sizes.equations (equations start) i
-    ∷ to_z-of_z {w = w64} {z = sizes.l} (sfits_of c.struct_told.given.1.1.0.1) i
-    ∷ to_z-of_z {w = w64} {z = sizes.t} (sfits_of c.struct_told.given.1.1.1.0.1) i
+    ∷ to_z-of_z {w = w64} {z = sizes.l} (search rules) i
+    ∷ to_z-of_z {w = w64} {z = sizes.t} (search rules) i
     ∷ small-value state.relations (relations start) i ∷ small-value state.settled (settled start) i
     ∷ value 0 i ∷ value 1 i ∷ value 2 i ∷ value 3 i ∷ small-value state.shifts (shifts start) i ∷ [])
     ∙ ap (λ l. pos sizes.m ∷ pos sizes.equations ∷ sizes.l ∷ sizes.t ∷ pos state.relations ∷ pos state.settled
     ∷ (l ++ (pos state.shifts ∷ [])))
     (four-columns order start.requires.four)
-
-pub state-numbers-spec : {M : Type 1} → statement M
-state-numbers-spec =
-    tie.close
-    (tie.spec
-    cast-t4
-    cast-t5
-    cast-t6
-    cast-t7
-    array-read-t10
-    cast-t11
-    array-read-t14
-    cast-t15
-    array-read-t18
-    cast-t19
-    array-read-t22
-    cast-t23
-    cast-t24
-    returns)
