@@ -2,7 +2,7 @@
 --
 -- Main statements
 --   given-ordered, given-text   the bytes between the two places that the reader tells are these lines
-use Rattle.std.specs.Prelude.{ℕ, ◌+◌, ◌-◌, ◌≤◌, ◌≡◌, refl, length, take, ℤ, pos}
+use Rattle.std.specs.Prelude.{ℕ, ◌+◌, ◌-◌, ◌≤◌, ◌≡◌, length, take, ℤ, pos}
 use Rattle.std.proofs.Common.{arith, sym, ◌∙◌, length-append, length-drop, take_at}
 use Rattle.std.proofs.Math.Path.{ap}
 use mathlib.Core.List.{List, ◌∷◌, ◌++◌, map, flatten, map-map}

@@ -28,7 +28,6 @@ use Rattle.answers.specs.Answers.{call-checked-run}
 use Rattle.answers.specs.ClearedRecords.{ZeroBetween, blocks-fit, rows-between, relations-between}
 use Rattle.answers.specs.CopiedLines.{given-ordered, given-text}
 use Rattle.answers.specs.WorkStores.{Used, unread-same, read-rest, refused-zero, accepted-used}
-use borrow.Author.Rules.{rules}
 use Rattle.rules.specs.Limits.{block_length, entries_length, row_length, relation_length}
 use Rattle.answers.proofs.answer_in.Goals as goal
 use Rattle.answers.proofs.answer_in.Goals.{After-leading_run-run, After-read_own-own, After-relations-3-1, After-span, After-with_equations-kept, After-write_given-written, Else-run-ne0, Else-sheet-ne0, Start}

@@ -4,12 +4,11 @@ use mathlib.Core.Path.{◌≡◌, refl, sym, ◌∙◌, ap}
 use Prim.Native.Nat.{ℕ, ◌+◌, ◌*◌, ◌≤◌, ◌-◌}
 use native.Mathlib.Nat.{zero-mul, mul-le-mul}
 use native.Mathlib.Omega.{arith}
-use borrow.Author.Rules.{rules}
 use lib.IntN.{pos}
-use lib.ListN.{length, replicate}
+use lib.ListN.{replicate}
 use lib.Seq.{paste, paste-zero}
 use Rattle.rules.specs.Limits.{coefficient_count, relation_length, most_relations}
-use Rattle.answers.specs.ClearedRecords.{cleared_to, record-within, record-cleared}
+use Rattle.answers.specs.ClearedRecords.{record-within, record-cleared}
 use Rattle.answers.proofs.clear_records.Goals as goal
 use Rattle.answers.proofs.clear_records.Goals.{In-loop-i, Start}
 

@@ -1,15 +1,9 @@
 -- `answers::clear_records` meets its contract. The loop's invariant: the first i records are cleared.
 -- Assumes nothing.
-use mathlib.Core.Path.{◌≡◌, refl, sym, ◌∙◌, ap}
-use Prim.Native.Nat.{ℕ, ◌+◌, ◌*◌, ◌≤◌, ◌-◌}
-use native.Mathlib.Nat.{zero-mul, mul-le-mul}
-use native.Mathlib.Omega.{arith}
-use borrow.Author.Rules.{rules}
-use lib.IntN.{pos}
-use lib.ListN.{length, replicate}
-use lib.Seq.{paste, paste-zero}
-use Rattle.rules.specs.Limits.{coefficient_count, relation_length, most_relations}
-use Rattle.answers.specs.ClearedRecords.{cleared_to, record-within, record-cleared}
+use mathlib.Core.Path.{◌≡◌}
+use Prim.Native.Nat.{◌*◌, ◌≤◌, ◌-◌}
+use lib.ListN.{length}
+use Rattle.answers.specs.ClearedRecords.{cleared_to}
 use Rattle.answers.proofs.clear_records.Given as goal
 
 abbrev pub invariant-loop-i : goal.invariant-loop-i
