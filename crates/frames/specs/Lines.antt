@@ -30,7 +30,7 @@ use Rattle.std.proofs.lemmas.List.{length-replicate}
 use Rattle.std.proofs.lemmas.List.Edits.{sets, sets-eq}
 use Rattle.std.proofs.Math.IntN.{nat_abs}
 use Rattle.std.specs.Int.Signed.{non_neg}
-use Rattle.rules.specs.Numbers.{space, line, lines, decimal, got, fault, field, between}
+use Rattle.rules.specs.Numbers.{space, newline, line, lines, decimal, got, fault, field, between}
 use Rattle.rules.specs.Sheets.{always}
 use Rattle.lists.specs.Overwritten.{overwrite}
 use Rattle.lists.specs.Totals.{total, get_or-total}
@@ -76,14 +76,14 @@ module _ {w bytes : List ℕ} (v : Window w bytes) where
 
   pub begun-refused : (n : ℕ) → read_count w ≡ fault n → record { refusal = n; taken = 0; batch = batch_with 0 no_tally } ≡ begun_of bytes
   unfolding begun_of begun_by followed read_count
-  begun-refused n e = sym (ap (begun_by bytes) (field-window _ _ w bytes v ∙ ap (λ r. followed r v.beyond) e))
+  begun-refused n e = sym (ap (begun_by bytes) (field-window (between (pos 0) (pos 1000)) (always newline) w bytes v ∙ ap (λ r. followed r v.beyond) e))
 
   pub begun-read : (k : ℤ) (at : ℕ) → read_count w ≡ got k (drop at w) → at ≤ length w
       → record { refusal = 0; taken = at; batch = batch_with (nat_abs k) no_tally } ≡ begun_of bytes
   unfolding begun_of begun_by followed read_count
   begun-read k at e h =
       sym
-      (ap (begun_by bytes) (field-window _ _ w bytes v ∙ ap (λ r. followed r v.beyond) e)
+      (ap (begun_by bytes) (field-window (between (pos 0) (pos 1000)) (always newline) w bytes v ∙ ap (λ r. followed r v.beyond) e)
       ∙ ap (λ n. record { refusal = 0; taken = n; batch = batch_with (nat_abs k) no_tally }) (taken_in w bytes v at h))
 
   -- ---- the line of a sheet

@@ -16,8 +16,9 @@ use Rattle.std.proofs.Math.Dec.{T}
 use Rattle.std.proofs.Math.ListN.{length}
 use Rattle.std.specs.Int.Signed.{le_z}
 use Rattle.lists.specs.Tests.{T-&&, every, every_append}
-use Rattle.rules.specs.Numbers.{minus, word, after_word, is_digit_of, signed, digits, starts_right_of, begins_number, is_number, number_of}
+use Rattle.rules.specs.Numbers.{minus, space, newline, word, after_word, is_digit_of, signed, digits, starts_right_of, begins_number, is_number, number_of}
 use Rattle.rules.specs.Numbers.{Read, got, fault, then_read, judged, read_word, read_separator, field, between}
+use Rattle.rules.specs.Sheets.{always}
 use Rattle.rules.specs.Batch.{SheetLine as ReadLine, no_tally, read_size, read_after_client, read_sheet_line}
 use Rattle.tokens.specs.Exact.{fault-got}
 use Rattle.tokens.specs.Windows.{followed, number_line, batch_line, Taken, word-unended, word-whole, begins-short, separated, field_is}
@@ -143,11 +144,11 @@ sheet_line-fault-longer w x n e other = sheet_line-is (w ++ x) ∙ client (clien
     size : (k : ℤ) (more : List ℕ) (r : Read ℤ) → count_of more ≡ r → read_size k r ≡ fault n → read_size k (count_of (more ++ x)) ≡ fault n
     size k more (got m after) d e = absurd (got_fault _ after n e)
     size k more (fault m) d e =
-        ap (read_size k) (field-fault-longer _ _ more x n (d ∙ ap fault (fault-inj m n e)) other)
+        ap (read_size k) (field-fault-longer (between (pos 0) (pos 32768)) (always newline) more x n (d ∙ ap fault (fault-inj m n e)) other)
 
     client : (r : Read ℤ) → client_of w ≡ r → read_after_client r ≡ fault n → read_after_client (client_of (w ++ x)) ≡ fault n
-    client (got k more) c e = ap read_after_client (field-got-longer _ _ w x k more c) ∙ size k more (count_of more) refl e
-    client (fault m) c e = ap read_after_client (field-fault-longer _ _ w x n (c ∙ ap fault (fault-inj m n e)) other)
+    client (got k more) c e = ap read_after_client (field-got-longer (between (pos 1) (pos 8)) (always space) w x k more c) ∙ size k more (count_of more) refl e
+    client (fault m) c e = ap read_after_client (field-fault-longer (between (pos 1) (pos 8)) (always space) w x n (c ∙ ap fault (fault-inj m n e)) other)
 
 pub sheet_line-early : (w : List ℕ) → read_sheet_line w ≡ fault 4 → length w < batch_line
 unfolding read_after_client read_size
@@ -155,14 +156,14 @@ sheet_line-early w e = client (client_of w) refl (sym (sheet_line-is w) ∙ e)
   where
     size : (k : ℤ) (more : List ℕ) (r : Read ℤ) → count_of more ≡ r → read_size k r ≡ fault 4 → length more < number_line
     size k more (got m after) d e = absurd (got_fault _ after 4 e)
-    size k more (fault m) d e = field-early _ _ (between-other (pos 0) (pos 32768)) more (d ∙ ap fault (fault-inj m 4 e))
+    size k more (fault m) d e = field-early (between (pos 0) (pos 32768)) (always newline) (between-other (pos 0) (pos 32768)) more (d ∙ ap fault (fault-inj m 4 e))
 
     client : (r : Read ℤ) → client_of w ≡ r → read_after_client r ≡ fault 4 → length w < batch_line
-    client (got k more) c e = long (field-taken _ _ w k more c) (size k more (count_of more) refl e)
+    client (got k more) c e = long (field-taken (between (pos 1) (pos 8)) (always space) w k more c) (size k more (count_of more) refl e)
       where
         long : Taken number_line w more → length more < number_line → length w < batch_line
         long t h = omega (arith, t.few, ap length t.whole, length-append t.front more)
-    client (fault m) c e = omega (arith, field-early _ _ (between-other (pos 1) (pos 8)) w (c ∙ ap fault (fault-inj m 4 e)))
+    client (fault m) c e = omega (arith, field-early (between (pos 1) (pos 8)) (always space) (between-other (pos 1) (pos 8)) w (c ∙ ap fault (fault-inj m 4 e)))
 
 -- ---- what is told of a line
 
@@ -176,9 +177,9 @@ begun-longer w x other = go (read_count w) refl other
   where
     go : (r : Read ℤ) → read_count w ≡ r → (begun_by w r).refusal ≢ 4 → begun_by (w ++ x) (read_count (w ++ x)) ≡ begun_by w r
     go (got k rest) e other =
-        ap (begun_by (w ++ x)) (field-got-longer _ _ w x k rest e)
+        ap (begun_by (w ++ x)) (field-got-longer (between (pos 0) (pos 1000)) (always newline) w x k rest e)
         ∙ ap (λ n. record { refusal = 0; taken = n; batch = batch_with (nat_abs k) no_tally }) (taken-longer w rest x)
-    go (fault n) e other = ap (begun_by (w ++ x)) (field-fault-longer _ _ w x n e other)
+    go (fault n) e other = ap (begun_by (w ++ x)) (field-fault-longer (between (pos 0) (pos 1000)) (always newline) w x n e other)
 
 pub line-longer : (w x : List ℕ) → (line_of w).refusal ≢ 4 → line_of (w ++ x) ≡ line_of w
 unfolding line_of line_by
@@ -196,7 +197,7 @@ begun-early w z = go (read_count w) refl z
   where
     go : (r : Read ℤ) → read_count w ≡ r → (begun_by w r).refusal ≡ 4 → length w < batch_line
     go (got k rest) e z = absurd (omega arith)
-    go (fault n) e z = omega (arith, field-early _ _ (between-other (pos 0) (pos 1000)) w (e ∙ ap fault z))
+    go (fault n) e z = omega (arith, field-early (between (pos 0) (pos 1000)) (always newline) (between-other (pos 0) (pos 1000)) w (e ∙ ap fault z))
 
 pub line-early : (w : List ℕ) → (line_of w).refusal ≡ 4 → length w < batch_line
 unfolding line_of line_by

@@ -1,5 +1,7 @@
 // The frame of a batch: the line with the sheet count, the line of each sheet, the count of the answers by client, and the last lines.
 // `batches` has the public entry points; no `pub fn` here has a `requires`, and the contracts give the result by equations.
+#![tactic(auto)]
+
 ghost use Rattle.std.specs.Prelude.{◌≡◌, [], ◌∷◌, min, ◌+◌, ◌^◌, ◌≤◌, ◌<◌, pos, length, take};
 ghost use Rattle.lists.specs.Totals.{total};
 ghost use Rattle.rules.specs.Numbers.{line, lines};

@@ -1,0 +1,29 @@
+-- `frames::put_tally` meets its contract. The loop's invariant: the lines of the clients from i on are still to be written.
+-- Assumes nothing.
+use Prim.Native.Nat.{◌≤◌, ◌-◌, ◌*◌}
+use mathlib.Core.Path.{refl}
+use native.Mathlib.Omega.{arith}
+use Rattle.rules.specs.Numbers.{lines}
+use Rattle.rules.specs.Batch.{Tally, client_count, tally_lines}
+use Rattle.number_texts.specs.Runs.{Going, going-first, going_next, going-last}
+use Rattle.frames.specs.Lines.{pair_bytes, lines_from, lines_next, lines_end}
+use borrow.Author.Rules.{rules}
+use Rattle.frames.proofs.put_tally.Goals as goal
+
+pub loop-i-init : goal.loop-i-init
+unfolding tally_lines
+loop-i-init c = (omega arith, going-first refl)
+
+pub loop-i-preserved : goal.loop-i-preserved
+loop-i-preserved c =
+    let args = c.args in
+    let y : Tally = record { accepted = args.accepted; refused = args.refused } in (
+      omega arith,
+      going_next c.loop-i.invariant.1 (lines_next y c.loop-i.i (omega arith)) c.put_pair-at.ensures (omega arith),
+    )
+
+pub returns : goal.returns
+returns c =
+    let args = c.args in
+    let y : Tally = record { accepted = args.accepted; refused = args.refused } in
+    going-last c.loop-i.invariant.1 (lines_end y c.loop-i.i (omega arith)) (omega arith)
