@@ -20,7 +20,7 @@ use Rattle.lists.specs.Overwritten.{overwrite}
 use Rattle.lists.specs.Everywhere.{All, all_take, map-keeps}
 use Rattle.lists.specs.Padded.{length-pad_to, all-pad_to}
 use Rattle.rules.specs.Limits.{column_count}
-use Rattle.rules.specs.Calls.{zeros, reported_order, cleared}
+use Rattle.rules.specs.Calls.{zeros, reported_order}
 use Rattle.working_rows.specs.Found.{Columns}
 use Rattle.working_rows.specs.Working.{paste-joined}
 use Rattle.sides.specs.Lent.{Kept}

@@ -20,7 +20,7 @@ use Rattle.lists.specs.Joined.{flatten-append}
 use Rattle.lists.specs.Pasted.{paste-rest}
 use Rattle.rules.specs.Limits.{most_equations}
 use Rattle.rules.specs.Stores.{rows_of, relations_of}
-use Rattle.rules.specs.Elimination.{State, Outcome, going, leading, step, finished, start}
+use Rattle.rules.specs.Elimination.{State, going, leading, step, finished, start}
 use Rattle.sides.specs.Lent.{Kept}
 use Rattle.sides.specs.StoreStates.{kept_same, kept_then}
 use Rattle.reduction.specs.declared.step.Progress.{Progress}

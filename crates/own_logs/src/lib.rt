@@ -1,4 +1,6 @@
 // Our own run with the log that it writes, on checked stores (SCOPE 13.5): `run` makes the run and writes the steps, `close` the end of the log.
+#![tactic(auto)]
+
 ghost use Rattle.std.specs.Prelude.{◌≡◌, ◌++◌, map, ◌+◌, ◌*◌, ◌≤◌, pos, length, take};
 ghost use Rattle.std.proofs.Math.Seq.{paste};
 ghost use Rattle.lists.specs.Everywhere.{All};

@@ -27,6 +27,7 @@ const DROP: usize = 5;
 
 // No step of a log, one or two. Past so many the numbers say nothing.
 #[derive(Drop)]
+#[derive(Clone, Copy)]
 pub(crate) struct Lines {
     pub count: usize,
     pub first: [i64; STEP],

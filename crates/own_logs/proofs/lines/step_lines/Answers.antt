@@ -6,7 +6,6 @@ use mathlib.Core.List.{List, [], ◌∷◌}
 use Prim.Native.Nat.{ℕ, ◌+◌, ◌*◌, ◌≤◌, ◌<◌}
 use native.Mathlib.Numerals.{add-one}
 use native.Mathlib.Omega.{arith}
-use borrow.Author.Rules.{rules}
 use borrow.Author.Tests.{eq-eqb, ne_eqb}
 use lib.IntN.{ℤ, pos}
 use lib.ListN.{length}
@@ -28,11 +27,11 @@ use Rattle.log_steps.specs.Logs.{raising, dropping}
 use Rattle.own_logs.specs.Own.{change_numbers, step_changes}
 use Rattle.own_logs.specs.OwnLines.{one_line, no_lines_of, LinesOf, StepLines}
 use Rattle.own_logs.specs.LineLaws.{lines-one, lines_none, changes-zero, changes-met, changes-settled, changes-shift, met-low}
-use Rattle.own_logs.proofs.lines.step_lines.Statement.{statement}
-use Rattle.own_logs.proofs.lines.step_lines.Tie as tie
+use Rattle.own_logs.proofs.lines.step_lines.Goals as goal
+use Rattle.own_logs.proofs.lines.step_lines.Goals.{After-column_at, After-met_at-j, After-width_at-width, Else-width-eq0, Start}
 
 -- the arguments
-module _ (c : tie.Start) where
+module _ (c : Start) where
   abbrev rows : List ℤ
   rows = c.args.rows.now
 
@@ -67,66 +66,57 @@ module _ (c : tie.Start) where
   dropped relations s false r e f g = absurd (going≢refused (sym g ∙ step-contradicts leading r inside e f))
 
 -- the row that is worked on
-module _ (c : tie.After-width-at) where
-  abbrev start : tie.Start
-  start = c.before
+module _ (c : After-width_at-width) where
+  abbrev start : Start
+  start = (goal.at.After-width_at-width c).Start
 
-  left-zero : c.width-at.result ≡ 0 → zero_left (row start) ≡ true
-  left-zero e = sym (width-zero (row start)) ∙ eq-eqb (width (row start)) 0 (sym c.width-at.ensures ∙ e)
+  left-zero : c.width_at-width.result ≡ 0 → zero_left (row start) ≡ true
+  left-zero e = sym (width-zero (row start)) ∙ eq-eqb (width (row start)) 0 (sym c.width_at-width.ensures ∙ e)
 
-  left-nonzero : (c.width-at.result ≡ 0 → ⊥) → zero_left (row start) ≡ false
-  left-nonzero n = sym (width-zero (row start)) ∙ ne_eqb (width (row start)) 0 (λ e. n (c.width-at.ensures ∙ e))
+  left-nonzero : (c.width_at-width.result ≡ 0 → ⊥) → zero_left (row start) ≡ false
+  left-nonzero n = sym (width-zero (row start)) ∙ ne_eqb (width (row start)) 0 (λ e. n (c.width_at-width.ensures ∙ e))
 
 -- the settled row that is met
-module _ (c : tie.After-met-at) where
-  abbrev tested : tie.Else1
-  tested = c.before.before
+module _ (c : After-met_at-j) where
+  abbrev tested : Else-width-eq0
+  tested = (goal.at.After-met_at-j c).Else-width-eq0
 
-  abbrev read : tie.After-width-at
-  read = tested.before
+  abbrev read : After-width_at-width
+  read = (goal.at.Else-width-eq0 tested).After-width_at-width
 
-  abbrev base : tie.Start
+  abbrev base : Start
   base = start read
 
   nonzero : zero_left (row base) ≡ false
-  nonzero = left-nonzero read tested.if1.left
+  nonzero = left-nonzero read tested.if-width-eq0.false
 
-  met-is : met base ≡ c.met_at.result
-  met-is = sym c.met_at.ensures
+  met-is : met base ≡ c.met_at-j.result
+  met-is = sym c.met_at-j.ensures
 
 -- the column, where no settled row is met
-module _ (c : tie.After-column-at) where
-  abbrev unmet : tie.After-met-at
-  unmet = c.before.before
+module _ (c : After-column_at) where
+  abbrev unmet : After-met_at-j
+  unmet = (goal.at.After-column_at c).After-met_at-j
 
-  abbrev origin : tie.Start
+  abbrev origin : Start
   origin = base unmet
 
   none-met : i origin ≤ met origin
-  none-met = omega (arith, met-is unmet, c.before.if2.false)
+  none-met = omega (arith, met-is unmet, c.if-j-i.false)
 
-  column-is : found_or column_count (first_nonzero (leading_block (row origin))) ≡ c.column-at.result
-  column-is = sym c.column-at.ensures
+  column-is : found_or column_count (first_nonzero (leading_block (row origin))) ≡ c.column_at.result
+  column-is = sym c.column_at.ensures
 
-width-at-requires : tie.Need-width-at-requires
-width-at-requires c κs = (room c, omega arith, omega (arith, width-most (numbers_at (rows c) (i c))))
+pub width_at-width-requires : goal.width_at-width-requires
+width_at-width-requires c = (room c, omega arith, omega (arith, width-most (numbers_at (rows c) (i c))))
 
-add-plain : tie.Need-overflow-add-plain
-add-plain c = search rules
-
-plain-requires : tie.Need-plain-requires
-plain-requires c κs = search rules
-
-one-requires : tie.Need-one-requires
-one-requires c κs = search rules
-
-returns : tie.Need-returns
+pub returns-then-width-eq0 : goal.returns-then-width-eq0
 unfolding change_numbers zeros
-returns c =
-    let narrow = c.before.before in
-    let l = narrow.before in
+returns-then-width-eq0 c =
+    let narrow = (goal.at.returns-then-width-eq0 c).After-width_at-width in
+    let l = narrow in
     let b = start l in
-    let plain = c.before.plain in
+    let plain = c.plain in
     let line = plain.ensures ∙ (λ k. pos 5 ∷ pos (add-one (i b) k) ∷ zeros 34) in
     let long = ap length plain.ensures in
     subst (StepLines (rows b) (p b)) (sym c.one.ensures)
@@ -134,98 +124,67 @@ returns c =
       two = record { few = omega arith; first-long = long; second-long = refl };
       said =
           λ relations s r e. subst (λ cs. LinesOf cs (one_line plain.result))
-          (sym (dropped b relations s (is_zero_of (row b).right) r (left-zero l narrow.if1.true) refl e))
+          (sym (dropped b relations s (is_zero_of (row b).right) r (left-zero l c.if-width-eq0.true) refl e))
           (lines-one (dropping (i b)) plain.result line long);
     })
 
-met-at-requires : tie.Need-met-at-requires
-met-at-requires c κs =
-    let b = start c.before.before in (room b, (ready b).few-settled, (ready b).columns)
+pub met_at-j-requires : goal.met_at-j-requires
+met_at-j-requires c =
+    let b = start (goal.at.met_at-j-requires c).After-width_at-width in (room b, (ready b).few-settled, (ready b).columns)
 
-elimination-requires : tie.Need-elimination-requires
-elimination-requires c κs =
-    let d = c.before in
+pub elimination-requires : goal.elimination-requires
+elimination-requires c =
+    let d = (goal.at.elimination-requires c).After-met_at-j in
     let b = base d in
-    let met-j = c.if2.true in (
-      (b.pre.0, inside b, met-j, (read d).width-at.ensures),
-      met-nonzero leading (ready b) (inside b) (nonzero d) d.met_at.result (met-is d) met-j,
-    )
+    let met-j = c.if-j-i.true in record {
+      readable = (b.requires.0, inside b, met-j, (read d).width_at-width.ensures);
+      t = met-nonzero leading (ready b) (inside b) (nonzero d) d.met_at-j.result (met-is d) met-j;
+    }
 
-returns-2 : tie.Need-returns-2
-returns-2 c =
-    let passed = c.before in
-    let d = passed.before in
+pub returns-then-j-i : goal.returns-then-j-i
+returns-then-j-i c =
+    let d = (goal.at.returns-then-j-i c).After-met_at-j in
     let b = base d in
-    let j = d.met_at.result in
-    let h = passed.if2.true in
-    let lines = c.elimination.ensures in
+    let j = d.met_at-j.result in
+    let h = c.if-j-i.true in
     record {
-      two = lines.two;
+      two = c.elimination.ensures.two;
       said =
           λ relations s r e. subst (λ cs. LinesOf cs c.elimination.result)
           (sym (changes-met r (inside b) (nonzero d) j (met-is d) h))
-          (lines.said (met-low r (inside b) j h s (nonzero d) (met-is d) e));
+          (c.elimination.ensures.said (met-low r (inside b) j h s (nonzero d) (met-is d) e));
     }
 
-column-at-requires : tie.Need-column-at-requires
-column-at-requires c κs = room (base c.before)
+pub column_at-requires : goal.column_at-requires
+column_at-requires c = room (base (goal.at.column_at-requires c).After-met_at-j)
 
-returns-3 : tie.Need-returns-3
+pub returns-then-column_at-lt-COLUMNS : goal.returns-then-column_at-lt-COLUMNS
 unfolding zeros
-returns-3 c =
-    let d = c.before in
+returns-then-column_at-lt-COLUMNS c =
+    let d = (goal.at.returns-then-column_at-lt-COLUMNS c).After-column_at in
     let b = origin d in
     record {
       two = record { few = omega arith; first-long = refl; second-long = refl };
       said =
           λ relations s r e. subst (λ cs. LinesOf cs no_lines_of)
-          (sym (changes-settled r (inside b) (nonzero (unmet d)) (none-met d) d.column-at.result (column-is d)
-          (omega (arith, c.if3.true))))
+          (sym (changes-settled r (inside b) (nonzero (unmet d)) (none-met d) d.column_at.result (column-is d)
+          (omega (arith, c.if-column_at-lt-COLUMNS.true))))
           lines_none;
     }
 
-add-plain-2 : tie.Need-overflow-add-plain-2
-add-plain-2 c = search rules
-
-plain-requires-2 : tie.Need-plain-requires-2
-plain-requires-2 c κs = search rules
-
-one-requires-2 : tie.Need-one-requires-2
-one-requires-2 c κs = search rules
-
-returns-4 : tie.Need-returns-4
+pub returns : goal.returns
 unfolding change_numbers zeros
-returns-4 c =
-    let tested = c.before.before in
-    let d = tested.before in
+returns c =
+    let d = (goal.at.returns c).After-column_at in
     let b = origin d in
-    let plain = c.before.plain2 in
+    let plain = c.plain-2 in
     let line = plain.ensures ∙ (λ k. pos 3 ∷ pos (add-one (i b) k) ∷ zeros 34) in
     let long = ap length plain.ensures in
-    subst (StepLines (rows b) (p b)) (sym c.one2.ensures)
+    subst (StepLines (rows b) (p b)) (sym c.one-2.ensures)
     (record {
       two = record { few = omega arith; first-long = long; second-long = refl };
       said =
           λ relations s r e. subst (λ cs. LinesOf cs (one_line plain.result))
-          (sym (changes-shift r (inside b) (nonzero (unmet d)) (none-met d) (omega (arith, column-is d, tested.if3.false))))
+          (sym (changes-shift r (inside b) (nonzero (unmet d)) (none-met d) (omega (arith, column-is d, c.if-column_at-lt-COLUMNS.false))))
           (lines-one (raising (i b)) plain.result line long);
     })
-
-pub step-lines-spec : {M : Type 1} → statement M
-step-lines-spec =
-    tie.close
-    (tie.spec
-    width-at-requires
-    add-plain
-    plain-requires
-    one-requires
-    returns
-    met-at-requires
-    elimination-requires
-    returns-2
-    column-at-requires
-    returns-3
-    add-plain-2
-    plain-requires-2
-    one-requires-2
-    returns-4)

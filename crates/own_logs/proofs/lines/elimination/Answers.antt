@@ -6,7 +6,6 @@ use mathlib.Core.List.{List, [], ◌∷◌, ◌++◌}
 use Prim.Native.Nat.{ℕ, ◌+◌, ◌*◌, ◌≤◌, ◌<◌}
 use native.Mathlib.Numerals.{add-one}
 use native.Mathlib.Omega.{arith}
-use borrow.Author.Rules.{rules}
 use borrow.Author.Tests.{lt-ltb, le-ltb}
 use lib.Dec.{T, ltb}
 use lib.IntN.{ℤ, pos}
@@ -30,11 +29,11 @@ use Rattle.own_logs.specs.Own.{change_numbers}
 use Rattle.own_logs.specs.declared.lines.Lines.{Lines}
 use Rattle.own_logs.specs.OwnLines.{LinesOf, CombinationLine, Eliminated, combination_by, target_in, pivot_in, multipliers_after}
 use Rattle.own_logs.specs.LineLaws.{lines-one, lines_two}
-use Rattle.own_logs.proofs.lines.elimination.Statement.{statement}
-use Rattle.own_logs.proofs.lines.elimination.Tie as tie
+use Rattle.own_logs.proofs.lines.elimination.Goals as goal
+use Rattle.own_logs.proofs.lines.elimination.Goals.{After-row_at-other, After-width_at, Else-width-width_at, Start, Then-width-width_at}
 
 -- the arguments
-module _ (c : tie.Start) where
+module _ (c : Start) where
   abbrev rows : List ℤ
   rows = c.args.rows.now
 
@@ -50,17 +49,17 @@ module _ (c : tie.Start) where
   abbrev n : ℕ
   n = p.rows
 
-  ready : Ready rows c.requires.0.0.relations p
-  ready = c.requires.0.0.ready
+  ready : Ready rows c.requires.readable.0.relations p
+  ready = c.requires.readable.0.ready
 
   inside : i < n
-  inside = c.requires.0.1
+  inside = c.requires.readable.1
 
   settled : j < i
-  settled = c.requires.0.2
+  settled = c.requires.readable.2
 
   width_is : c.args.width ≡ width (row_of (numbers_at rows i))
-  width_is = c.requires.0.3
+  width_is = c.requires.readable.3
 
   other : j < n
   other = omega (arith, inside, settled)
@@ -102,7 +101,7 @@ module _ (c : tie.Start) where
         subst (λ m. T (every small m)) (sym k.pivot-is) (small-numbers_at n after within-after j other),
       ),
       subst₂ (λ a b. T (not (is_zero_of (entry (row_of a) column ++ entry (row_of b) column)))) (sym k.pivot-is) (sym k.target_is)
-          c.requires.1,
+          c.requires.t,
     ),
   )
 
@@ -123,35 +122,35 @@ module _ (c : tie.Start) where
   said t lines e h = subst (λ u. LinesOf (changes_by u) lines) (sym e) h
 
 -- both rows, where they stand
-module _ (c : tie.After-width-at) where
-  abbrev seen : tie.After-row-at2
-  seen = c.before
+module _ (c : After-width_at) where
+  abbrev seen : After-row_at-other
+  seen = (goal.at.After-width_at c).After-row_at-other
 
-  abbrev start : tie.Start
-  start = seen.before.before.before
+  abbrev start : Start
+  start = (goal.at.After-row_at-other seen).Start
 
   abbrev first : List ℤ
-  first = seen.before.row-at.result.now
+  first = seen.row_at-row.result.now
 
   abbrev second : List ℤ
-  second = seen.row-at2.result.now
+  second = seen.row_at-other.result.now
 
   first-is : first ≡ numbers_at (rows start) (i start)
-  first-is = seen.before.row-at.ensures.0
+  first-is = seen.row_at-row.ensures.result_value
 
   second_is : second ≡ numbers_at (rows start) (j start)
-  second_is = seen.row-at2.ensures.0
+  second_is = seen.row_at-other.ensures.result_value
 
 -- the exchange
-module _ (c : tie.Then1) where
-  abbrev looked : tie.After-width-at
-  looked = c.before
+module _ (c : Then-width-width_at) where
+  abbrev looked : After-width_at
+  looked = (goal.at.Then-width-width_at c).After-width_at
 
-  abbrev b : tie.Start
+  abbrev b : Start
   b = start looked
 
   wider : width (row_of (numbers_at (rows b) (i b))) < width (row_of (numbers_at (rows b) (j b)))
-  wider = omega (arith, width_is b, looked.width-at.ensures, c.if1.true)
+  wider = omega (arith, width_is b, looked.width_at.ensures, c.if-width-width_at.true)
 
   different : j b ≡ i b → ⊥
   different e = omega (arith, settled b, e)
@@ -169,15 +168,15 @@ module _ (c : tie.Then1) where
       }
 
 -- no exchange
-module _ (c : tie.Else1) where
-  abbrev kept : tie.After-width-at
-  kept = c.before
+module _ (c : Else-width-width_at) where
+  abbrev kept : After-width_at
+  kept = (goal.at.Else-width-width_at c).After-width_at
 
-  abbrev base : tie.Start
+  abbrev base : Start
   base = start kept
 
   not_wider : width (row_of (numbers_at (rows base) (j base))) ≤ width (row_of (numbers_at (rows base) (i base)))
-  not_wider = omega (arith, width_is base, kept.width-at.ensures, c.if1.false)
+  not_wider = omega (arith, width_is base, kept.width_at.ensures, c.if-width-width_at.false)
 
   same-places : Narrowed base (first kept) (second kept)
   same-places =
@@ -187,94 +186,54 @@ module _ (c : tie.Else1) where
         pivot-is = second_is kept ∙ ap (λ d. numbers_at d (j base)) (sym same);
       }
 
-mul-c : tie.Need-overflow-mul-c
-mul-c c = search rules
+pub row_at-row-requires : goal.row_at-row-requires
+row_at-row-requires c = let b = (goal.at.row_at-row-requires c).Start in room b (i b) (inside b)
 
-array-read-c : tie.Need-array-read-c
-array-read-c c = search rules
+pub row_at-other-requires : goal.row_at-other-requires
+row_at-other-requires c = let b = (goal.at.row_at-other-requires c).Start in room b (j b) (other b)
 
-mul-row-at : tie.Need-overflow-mul-row-at
-mul-row-at c = search rules
-
-row-at-requires : tie.Need-row-at-requires
-row-at-requires c κs = let b = c.before in room b (i b) (inside b)
-
-mul-row-at-2 : tie.Need-overflow-mul-row-at-2
-mul-row-at-2 c = search rules
-
-row-at-requires-2 : tie.Need-row-at-requires-2
-row-at-requires-2 c κs = let b = c.before.before in room b (j b) (other b)
-
-width-at-requires : tie.Need-width-at-requires
-width-at-requires c κs =
-    let b = c.before.before.before in
+pub width_at-requires : goal.width_at-requires
+width_at-requires c =
+    let b = (goal.at.width_at-requires c).Start in
     (room b (j b) (other b), omega arith, omega (arith, width-most (numbers_at (rows b) (j b))))
 
-add-plain : tie.Need-overflow-add-plain
-add-plain c = search rules
+pub combination-second-requires : goal.combination-second-requires
+combination-second-requires c =
+    let d = (goal.at.combination-second-requires c).Then-width-width_at in
+    let all = asked (b d) (second (looked d)) (first (looked d)) (exchanged d) in
+    record { i_lt_most_equations = all.0; target_len = all.1.0; t = all.1.1 }
 
-add-plain-2 : tie.Need-overflow-add-plain-2
-add-plain-2 c = search rules
-
-plain-requires : tie.Need-plain-requires
-plain-requires c κs = search rules
-
-combination-requires : tie.Need-combination-requires
-combination-requires c κs =
-    let d = c.before in asked (b d) (second (looked d)) (first (looked d)) (exchanged d)
-
-returns : tie.Need-returns
+pub returns-then-width-width_at : goal.returns-then-width-width_at
 unfolding change_numbers zeros
-returns c =
-    let d = c.before.before in
+returns-then-width-width_at c =
+    let d = (goal.at.returns-then-width-width_at c).Then-width-width_at in
     let a = b d in
-    let l = c.combination.result in
-    let line = combined-line a (second (looked d)) (first (looked d)) l (exchanged d) c.combination.ensures in
-    let first = c.before.plain.ensures
+    let l = c.combination-second.result in
+    let line = combined-line a (second (looked d)) (first (looked d)) l (exchanged d) c.combination-second.ensures in
+    let first = c.plain-first.ensures
     ∙ (λ k. pos 1 ∷ pos (add-one (i a) k) ∷ pos (add-one (j a) k) ∷ zeros 33) in
-    let long = ap length c.before.plain.ensures in
+    let long = ap length c.plain-first.ensures in
     record {
       two = record { few = omega arith; first-long = long; second-long = line.long };
       said =
           λ low. said a true _ (lt-ltb _ _ (wider d))
-          (lines_two (exchanging (i a) (j a)) (whole a) c.before.plain.result l first (line.said low) long line.long);
+          (lines_two (exchanging (i a) (j a)) (whole a) c.plain-first.result l first (line.said low) long line.long);
     }
 
-combination-requires-2 : tie.Need-combination-requires-2
-combination-requires-2 c κs = asked (base c) (first (kept c)) (second (kept c)) (same-places c)
+pub combination-requires : goal.combination-requires
+combination-requires c =
+    let all = asked (base c) (first (kept c)) (second (kept c)) (same-places c) in
+    record { i_lt_most_equations = all.0; target_len = all.1.0; t = all.1.1 }
 
-one-requires : tie.Need-one-requires
-one-requires c κs = search rules
-
-returns-2 : tie.Need-returns-2
+pub returns : goal.returns
 unfolding zeros
-returns-2 c =
-    let d = c.before.before in
+returns c =
+    let d = (goal.at.returns c).Else-width-width_at in
     let a = base d in
-    let l = c.before.combination2.result in
-    let line = combined-line a (first (kept d)) (second (kept d)) l (same-places d) c.before.combination2.ensures in
+    let l = c.combination.result in
+    let line = combined-line a (first (kept d)) (second (kept d)) l (same-places d) c.combination.ensures in
     subst (Eliminated (rows a) (p a) (j a)) (sym c.one.ensures)
     (record {
       two = record { few = omega arith; first-long = line.long; second-long = refl };
       said = λ low. said a false _ (le-ltb _ _ (not_wider d)) (lines-one (whole a) l (line.said low) line.long);
     })
-
-pub elimination-spec : {M : Type 1} → statement M
-elimination-spec =
-    tie.close
-    (tie.spec
-    mul-c
-    array-read-c
-    mul-row-at
-    row-at-requires
-    mul-row-at-2
-    row-at-requires-2
-    width-at-requires
-    add-plain
-    add-plain-2
-    plain-requires
-    combination-requires
-    returns
-    combination-requires-2
-    one-requires
-    returns-2)
