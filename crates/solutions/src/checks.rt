@@ -74,7 +74,7 @@ pub(crate) fn check(
     matrix: &[i64],
     list: &[i64],
 ) -> u8
-    ensures { result ≡ Calls.check_call (the_sizes_of sizes) count rows.entry.now relations.now
+    ensures { result ≡ Calls.check_call (the_sizes_of sizes) count rows.now relations.now
         (record {
           rows = work_rows.now;
           relations = work_relations.now;

@@ -1,5 +1,7 @@
 // Polynomial solutions: which sequences satisfy a system and are zero outside the indices 0 to N. `solutions` is the public entry point: no
 // `requires`, and a contract that gives the result and every store that it may write by one equation.
+#![tactic(auto)]
+
 ghost use Rattle.std.specs.Prelude.{◌≡◌, true, ◌≤◌, length, take};
 ghost use Rattle.rules.specs.Calls.{zeros};
 ghost use Rattle.rules.specs.Stores as Stores;

@@ -4,7 +4,6 @@ use mathlib.Core.Path.{◌≡◌, sym, ◌∙◌, ap, subst}
 use mathlib.Core.List.{List}
 use Prim.Native.Nat.{◌≤◌}
 use native.Mathlib.Omega.{arith}
-use borrow.Author.Rules.{rules}
 use borrow.Author.Tests.{not-true, not-false}
 use lib.Dec.{lit<}
 use lib.IntN.{ℤ, nat_abs, ◌+ℤ◌}
@@ -30,10 +29,10 @@ use Rattle.reduction.specs.declared.step.Outcome.{Outcome}
 use Rattle.runs.specs.CallLaws.{few-blocks}
 use Rattle.solutions.specs.SolutionAnswers.{last_root_of}
 use Rattle.solutions.specs.LastIndices.{index_of, index_for, after-refused, after-rank, after-root, last-small}
-use Rattle.solutions.proofs.trailing.index_after.Statement.{statement}
-use Rattle.solutions.proofs.trailing.index_after.Tie as tie
+use Rattle.solutions.proofs.trailing.index_after.Goals as goal
+use Rattle.solutions.proofs.trailing.index_after.Goals.{After-last_root-answer, After-span-span, After-struct_told-2-1, Else-refusal-ne0, Else-settled-m, Start}
 
-module _ (s : tie.Start) where
+module _ (s : Start) where
   abbrev z : Stores.Sizes
   z = the_sizes_of s.args.sizes
 
@@ -46,82 +45,81 @@ module _ (s : tie.Start) where
   abbrev ended : State
   ended = settled_state o.progress.settled rows o.progress.order
 
-returns : tie.Need-returns
-returns c =
-    let s = c.before in
+pub returns-then-refusal-ne0 : goal.returns-then-refusal-ne0
+returns-then-refusal-ne0 c =
+    let s = (goal.at.returns-then-refusal-ne0 c).Start in
     λ relations.
-    after-refused (z s) (o s).refusal (o s).done (state_of (rows s) relations (o s).progress) c.if1.true
+    after-refused (z s) (o s).refusal (o s).done (state_of (rows s) relations (o s).progress) c.if-refusal-ne0.true
 
-returns-2 : tie.Need-returns-2
+pub returns-then-settled-m : goal.returns-then-settled-m
 unfolding the_sizes_of
-returns-2 c =
-    let none = c.before.before in
-    let s = none.before in
-    λ relations. after-rank (z s) (rows s) relations (o s) s.requires.1 none.if1.false c.if2.true
+returns-then-settled-m c =
+    let s = (goal.at.returns-then-settled-m c).Start in
+    λ relations. after-rank (z s) (rows s) relations (o s) s.requires.1 c.if-refusal-ne0.false c.if-settled-m.true
 
-span-requires : tie.Need-span-requires
-span-requires c κs = c.before.before.before.before.requires.0
+pub span-span-requires : goal.span-span-requires
+span-span-requires c = c.requires.0
 
 -- The rank is m.
-module _ (d : tie.After-span) where
-  abbrev full : tie.Else2
-  full = d.before.before
+module _ (d : After-span-span) where
+  abbrev full : Else-settled-m
+  full = (goal.at.After-span-span d).Else-settled-m
 
-  abbrev none : tie.Else1
-  none = full.before.before
+  abbrev none : Else-refusal-ne0
+  none = (goal.at.Else-settled-m full).Else-refusal-ne0
 
-  abbrev st : tie.Start
-  st = none.before
+  abbrev st : Start
+  st = (goal.at.Else-refusal-ne0 none).Start
 
-  span-is : d.span.result ≡ Stores.span (z st)
-  span-is = d.span.ensures
+  span-is : d.span-span.result ≡ Stores.span (z st)
+  span-is = d.span-span.ensures
 
   left : Within (row_need (o st).progress.settled) (rows st)
   left =
-      subst (λ n. Within (row_need n) (rows st)) (st.pre.1.all_settled none.if1.left).1 st.pre.1.rows-within
+      subst (λ n. Within (row_need n) (rows st)) (st.requires.1.all_settled none.if-refusal-ne0.false).1 st.requires.1.rows-within
 
-last-root-requires : tie.Need-last-root-requires
-last-root-requires c κs =
+pub last_root-answer-requires : goal.last_root-answer-requires
+last_root-answer-requires c =
     let s = st c in
-    (s.pre.1.few-settled, rw (span-is c) (few-blocks (z s) s.pre.0), s.pre.1.columns, left c)
+    (s.requires.1.few-settled, rw (span-is c) (few-blocks (z s) s.requires.0), s.requires.1.columns, left c)
 
 -- The largest root.
-module _ (e : tie.After-last-root) where
-  abbrev d : tie.After-span
-  d = e.before
+module _ (e : After-last_root-answer) where
+  abbrev d : After-span-span
+  d = (goal.at.After-last_root-answer e).After-span-span
 
-  abbrev s : tie.Start
+  abbrev s : Start
   s = st d
 
   abbrev a : RootAnswer
-  a = e.last-root.result
+  a = e.last_root-answer.result
 
   answer-is : a ≡ answered (last_root_of (Stores.span (z s)) (ended s))
-  answer-is = e.last-root.ensures ∙ ap (λ n. answered (last_root_of n (ended s))) (span-is d)
+  answer-is = e.last_root-answer.ensures ∙ ap (λ n. answered (last_root_of n (ended s))) (span-is d)
 
   rank_is : (o s).progress.settled ≡ (z s).m
   unfolding the_sizes_of
-  rank_is = (full d).if2.left
+  rank_is = (full d).if-settled-m.false
 
   root-small : nat_abs a.root ≤ bound
   root-small =
       subst (λ r. nat_abs r.root ≤ bound) (sym answer-is)
       (last-small (Stores.span (z s)) (o s).progress.settled (rows s) (o s).progress.order
-      (omega (arith, s.pre.1.few-settled, s.pre.1.four)) (few-blocks (z s) s.pre.0) s.pre.1.columns (left d))
+      (omega (arith, s.requires.1.few-settled, s.requires.1.four)) (few-blocks (z s) s.requires.0) s.requires.1.columns (left d))
 
-returns-3 : tie.Need-returns-3
+pub returns-then-not-answer : goal.returns-then-not-answer
 unfolding index_of index_for
-returns-3 c =
-    let e = c.before.before in
-    let missing = sym (option-of _ (answer-is e)) ∙ option_of-missing (a e) (not-true _ c.if3.true) in
+returns-then-not-answer c =
+    let e = (goal.at.returns-then-not-answer c).After-last_root-answer in
+    let missing = sym (option-of _ (answer-is e)) ∙ option_of-missing (a e) (not-true _ c.if-not-answer.true) in
     λ relations.
     sym (ap (index_for (z (s e)).t) missing)
-    ∙ after-root (z (s e)) (rows (s e)) relations (o (s e)) (s e).requires.1 (none (d e)).if1.left (rank_is e)
+    ∙ after-root (z (s e)) (rows (s e)) relations (o (s e)) (s e).requires.1 (none (d e)).if-refusal-ne0.false (rank_is e)
 
 -- There is one.
-module _ (f : tie.After-struct-told2) where
-  abbrev e : tie.After-last-root
-  e = f.before.before.before.before.before.before
+module _ (f : After-struct_told-2-1) where
+  abbrev e : After-last_root-answer
+  e = (goal.at.After-struct_told-2-1 f).After-last_root-answer
 
   abbrev t : ℤ
   t = (s e).args.sizes.t
@@ -129,7 +127,7 @@ module _ (f : tie.After-struct-told2) where
   t-small : nat_abs t ≤ block_bound
   unfolding the_sizes_of
   t-small =
-      let bounds = size-bounds (z (s e)) (s e).pre.0 in
+      let bounds = size-bounds (z (s e)) (s e).requires.0 in
       (nat_abs-≤-iff t).1 (bounds.low, ≤ℤ-trans bounds.ordered bounds.high)
 
   root-back : to_z w64 (of_z w64 (a e).root) ≡ (a e).root
@@ -141,32 +139,16 @@ module _ (f : tie.After-struct-told2) where
   sum_fits : SFits w64 ((a e).root +ℤ t)
   sum_fits = sfits-size ((a e).root +ℤ t) {k = 268436000} (omega (arith, nat_abs-+ℤ (a e).root t, root-small e, t-small)) (lit< tt)
 
-add-index-at : tie.Need-overflow-add-index-at
-add-index-at c = simp (root-back c, t-back c) (sum_fits c)
+pub overflow_add-answer : goal.overflow_add-answer
+overflow_add-answer c = simp (root-back c, t-back c) (sum_fits c)
 
-index-at-requires : tie.Need-index-at-requires
-index-at-requires c κs = search rules
-
-returns-4 : tie.Need-returns-4
+pub returns : goal.returns
 unfolding index_for the_sizes_of
-returns-4 c =
-    let f = c.before in
-    let there = not-false _ f.before.before.before.before.if3.false in
+returns c =
+    let f = (goal.at.returns c).After-struct_told-2-1 in
+    let there = not-false _ f.if-not-answer.false in
     let found = sym (option-of _ (answer-is (e f))) ∙ option_of-found (a (e f)) there in
     λ relations.
-    (simp (root-back f, t-back f, to_z-of_z (sum_fits f)) at c.index_at.ensures)
+    (simp (root-back f, t-back f, to_z-of_z {w = w64} (sum_fits f)) at c.index_at.ensures)
     ∙ sym (ap (index_for (t f)) found)
-    ∙ after-root (z (s (e f))) (rows (s (e f))) relations (o (s (e f))) (s (e f)).pre.1 (none (d (e f))).if1.left (rank_is (e f))
-
-pub index-after-spec : {M : Type 1} → statement M
-index-after-spec =
-    tie.close
-    (tie.spec
-    returns
-    returns-2
-    span-requires
-    last-root-requires
-    returns-3
-    add-index-at
-    index-at-requires
-    returns-4)
+    ∙ after-root (z (s (e f))) (rows (s (e f))) relations (o (s (e f))) (s (e f)).requires.1 (none (d (e f))).if-refusal-ne0.false (rank_is (e f))
