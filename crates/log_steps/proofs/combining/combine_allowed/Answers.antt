@@ -2,18 +2,16 @@
 -- Assumes nothing.
 use mathlib.Core.Path.{◌≡◌, refl, sym, ◌∙◌, ap, ap₂, subst, subst₂}
 use mathlib.Core.List.{List}
-use Prim.Native.Nat.{ℕ, ◌+◌, ◌*◌, ◌≤◌, ◌<◌}
+use Prim.Native.Nat.{ℕ, ◌+◌, ◌≤◌, ◌<◌}
 use native.Mathlib.Nat.{le_of_eq}
 use native.Mathlib.Omega.{arith}
-use borrow.Author.Rules.{rules}
 use lib.Dec.{T}
 use lib.IntN.{ℤ}
 use lib.ListN.{length, length-append, length-replicate}
-use lib.Seq.{paste}
 use Rattle.algebra.specs.Polynomials.{Polynomial}
 use Rattle.algebra.specs.Roots.{roots}
 use Rattle.lists.specs.Tests.{every}
-use Rattle.rules.specs.Limits.{row_length, small}
+use Rattle.rules.specs.Limits.{small}
 use Rattle.rules.specs.Elimination.{Limited, leading, listing}
 use Rattle.roots.specs.RootSearch.{listed, held_of, roots_few}
 use Rattle.multiplicities.specs.declared.RootsWith.{RootsWith}
@@ -30,8 +28,8 @@ use Rattle.log_steps.specs.Logs.{combine_rows_of}
 use Rattle.log_steps.specs.Divisions.{divided-storable}
 use Rattle.log_steps.specs.StoreChanges.{Begun, begun-few, begun-room, Stepped, stepped_same}
 use Rattle.log_steps.specs.StoreCombinations.{new_row, combine-many, combine-stepped}
-use Rattle.log_steps.proofs.combining.combine_allowed.Statement.{statement}
-use Rattle.log_steps.proofs.combining.combine_allowed.Tie as tie
+use Rattle.log_steps.proofs.combining.combine_allowed.Goals as goal
+use Rattle.log_steps.proofs.combining.combine_allowed.Goals.{After-list_roots, After-struct_known-2-1, Start}
 
 abbrev Small : List ℤ → Type 0
 Small l = T (every small l)
@@ -40,7 +38,7 @@ listed-length : (l : List ℤ) → length l ≤ 16 → length (listed l).values 
 listed-length l h = simp (length-append, length-replicate) (omega arith)
 
 -- the arguments
-module _ (c : tie.Start) where
+module _ (c : Start) where
   abbrev rows : List ℤ
   rows = c.args.rows.now
 
@@ -57,13 +55,13 @@ module _ (c : tie.Start) where
   g = c.args.g.now
 
   ready : Ready rows relations p
-  ready = c.requires.0.0
+  ready = c.requires.ready.0
 
   none : p.settled ≡ 0
-  none = c.requires.0.1
+  none = c.requires.ready.1
 
   inside : i < p.rows
-  inside = c.requires.0.2
+  inside = c.requires.ready.2
 
   begun : Begun rows p
   begun = record { few-rows = ready.few-rows; rows-within = ready.rows-within; unsettled = none }
@@ -75,21 +73,21 @@ module _ (c : tie.Start) where
   target_small = small-numbers_at p.rows rows ready.rows-within i inside
 
   few : length (roots g) ≤ 15
-  few = roots_few g (le_of_eq c.requires.1.0)
+  few = roots_few g (le_of_eq c.requires.g_len.0)
 
   abbrev new : ℕ → ℕ → Polynomial → Limited
   new j d h = new_row d g h target (numbers_at rows j)
 
 -- the roots
-module _ (c : tie.After-struct-known2) where
-  abbrev base : tie.Start
-  base = c.before.before.before
+module _ (c : After-struct_known-2-1) where
+  abbrev base : Start
+  base = (goal.at.After-struct_known-2-1 c).Start
 
   abbrev found : RootsWith
-  found = c.before.before.roots-with.result
+  found = c.roots_with-found.result
 
   found-is : roots_alone found ≡ listed (roots (g base))
-  found-is = found-alone (g base) c.before.before.roots-with.ensures
+  found-is = found-alone (g base) c.roots_with-found.ensures
 
   count-is : found.count ≡ length (roots (g base))
   count-is = ap (λ f. f.count) found-is
@@ -98,23 +96,23 @@ module _ (c : tie.After-struct-known2) where
   held-is = held_of (roots (g base)) found-is
 
 -- the relations, and the new row
-module _ (c : tie.After-list-roots) where
-  abbrev rooted : tie.After-struct-known2
-  rooted = c.before.before.before.before.before
+module _ (c : After-list_roots) where
+  abbrev rooted : After-struct_known-2-1
+  rooted = (goal.at.After-list_roots c).After-struct_known-2-1
 
-  abbrev origin : tie.Start
+  abbrev origin : Start
   origin = base rooted
 
   abbrev after : List ℤ
-  after = c.list-roots.new.0
+  after = c.list_roots.new.relations
 
   relisted : Relisted (p origin).count (target origin) (listing leading (roots (g origin))) (relations origin) after
   relisted =
       subst₂ (λ t l. Relisted (p origin).count t (listing leading l) (relations origin) after)
-      c.before.before.row-at.ensures.0 (held-is rooted) c.list-roots.ensures
+      c.row_at-row.ensures.result_value (held-is rooted) c.list_roots.ensures
 
   room : (p origin).count + length (roots (g origin)) ≤ 16
-  room = omega (arith, count-is rooted, c.before.before.before.before.if1.false)
+  room = omega (arith, count-is rooted, c.if-count-gt16.false)
 
   stepped : (j d : ℕ) (h : Polynomial) → j < (p origin).rows
       → Stepped (rows origin) (relations origin)
@@ -124,79 +122,51 @@ module _ (c : tie.After-list-roots) where
   stepped j d h other =
       let s = origin in
       combine-stepped (ready s) (none s) (i s) j d (g s) h (inside s) other relisted room
-      (divided-storable (g s) h (target s) (numbers_at (rows s) j) (omega (arith, s.pre.1.0))
+      (divided-storable (g s) h (target s) (numbers_at (rows s) j) (omega (arith, s.requires.g_len.0))
       (length-numbers_at (p s).rows (rows s) (ready s).rows-within (i s) (inside s)) d)
 
-roots-with-requires : tie.Need-roots-with-requires
-roots-with-requires c κs = (c.requires.1.0, c.requires.1.1)
+pub roots_with-found-requires : goal.roots_with-found-requires
+roots_with-found-requires c = (c.requires.g_len.0, c.requires.g_len.1)
 
-add-count : tie.Need-overflow-add-count
-add-count c = omega (arith, few (base c), count-is c, (ready (base c)).listing.few)
+pub overflow_add-count : goal.overflow_add-count
+overflow_add-count c = omega (arith, few (base c), count-is c, (ready (base c)).listing.few)
 
-answer-requires : tie.Need-answer-requires
-answer-requires c κs = search rules
-
-returns : tie.Need-returns
-returns c =
-    let r = c.before.before in
+pub returns-then-count-gt16 : goal.returns-then-count-gt16
+returns-then-count-gt16 c =
+    let r = (goal.at.returns-then-count-gt16 c).After-struct_known-2-1 in
     let s = base r in
-    let many : 16 < (p s).count + length (roots (g s)) = omega (arith, count-is r, c.before.if1.true) in
+    let many : 16 < (p s).count + length (roots (g s)) = omega (arith, count-is r, c.if-count-gt16.true) in
     λ j d h other made.
     stepped_same refl c.answer.ensures refl (combine-many (ready s) (none s) (i s) j d (g s) h (inside s) other many)
 
-mul-row-at : tie.Need-overflow-mul-row-at
-mul-row-at c =
-    let s = base c.before.before in omega (arith, begun-few (begun s) (i s) (inside s))
+pub overflow_mul-i : goal.overflow_mul-i
+overflow_mul-i c =
+    let s = base (goal.at.overflow_mul-i c).After-struct_known-2-1 in omega (arith, begun-few (begun s) (i s) (inside s))
 
-row-at-requires : tie.Need-row-at-requires
-row-at-requires c κs =
-    let s = base c.before.before in begun-room (begun s) (i s) (inside s)
+pub row_at-row-requires : goal.row_at-row-requires
+row_at-row-requires c =
+    let s = base (goal.at.row_at-row-requires c).After-struct_known-2-1 in begun-room (begun s) (i s) (inside s)
 
-list-roots-requires : tie.Need-list-roots-requires
-list-roots-requires c κs =
-    let row-call = c.before in
-    let passed = row-call.before.before in
-    let r = passed.before in
+pub list_roots-requires : goal.list_roots-requires
+list_roots-requires c =
+    let r = (goal.at.list_roots-requires c).After-struct_known-2-1 in
     let s = base r in
-    let row = subst Small (sym row-call.row-at.ensures.0) (target_small s) in
-    let values = ap (λ f. length f.values) (found-is r) ∙ listed-length (roots (g s)) (omega (arith, few s)) in (
-      ((ready s).listing, omega (arith, passed.if1.false), values),
-      (subst Small (sym (held-is r)) (roots-small (g s) s.pre.1.1), row, row-call.row-at.ensures.1),
-    )
+    let row = subst Small (sym c.row_at-row.ensures.result_value) (target_small s) in
+    let values = ap (λ f. length f.values) (found-is r) ∙ listed-length (roots (g s)) (omega (arith, few s)) in record {
+      listing = ((ready s).listing, omega (arith, c.if-count-gt16.false), values);
+      t = (subst Small (sym (held-is r)) (roots-small (g s) s.requires.g_len.1), row, c.row_at-row.ensures.result_len);
+    }
 
-put-limited-requires : tie.Need-put-limited-requires
-put-limited-requires c κs = let s = c.before.before.before.before.before.before.before.before.before.before.before in (begun-room (begun s) (i s) (inside s), s.requires.1.2)
+pub put_limited-requires : goal.put_limited-requires
+put_limited-requires c = let s = (goal.at.put_limited-requires c).Start in (begun-room (begun s) (i s) (inside s), s.requires.g_len.2)
 
-same_length : tie.Need-same-length
-same_length c = search rules
-
-same-length-2 : tie.Need-same-length-2
-same-length-2 c = search rules
-
-returns-2 : tie.Need-returns-2
-returns-2 c =
-    let l = c.before.before.before.before.before in
+pub returns : goal.returns
+returns c =
+    let l = (goal.at.returns c).After-list_roots in
     let s = origin l in
-    let put = c.before.put-limited.ensures in
     λ j d h other shown.
     stepped_same
-    (put.0 ∙ ap₂ (saved (rows s) (i s)) shown.0 (ap numbers_held shown.1 ∙ numbers-worked (new s j d h)))
-    (put.1 ∙ ap₂ (λ n k. answer_of n (listed_progress (p s) k)) shown.0 (count-is (rooted l)))
+    (c.put_limited.ensures.rows_after ∙ ap₂ (saved (rows s) (i s)) shown.0 (ap numbers_held shown.1 ∙ numbers-worked (new s j d h)))
+    (c.put_limited.ensures.value ∙ ap₂ (λ n k. answer_of n (listed_progress (p s) k)) shown.0 (count-is (rooted l)))
     refl
     (stepped l j d h other)
-
-pub combine-allowed-spec : {M : Type 1} → statement M
-combine-allowed-spec =
-    tie.close
-    (tie.spec
-    roots-with-requires
-    add-count
-    answer-requires
-    returns
-    mul-row-at
-    row-at-requires
-    list-roots-requires
-    put-limited-requires
-    same_length
-    same-length-2
-    returns-2)

@@ -4,7 +4,6 @@ use mathlib.Core.Path.{◌≡◌, sym, ◌∙◌, ap, ap₂}
 use mathlib.Core.Bool.{Bool, true, false, ◌&&◌, and-false}
 use mathlib.Core.List.{List, ◌++◌}
 use Prim.Native.Nat.{ℕ}
-use borrow.Author.Tests.{not-true, not-false}
 use lib.IntN.{ℤ, nat_abs}
 use mir.Syntax.{w64}
 use mir.Val.{to_z, of_z}
@@ -12,7 +11,7 @@ use mir.Facts.{to_z-of_z}
 use Rattle.algebra.specs.Gcd.{divide_by, length-divide_by}
 use Rattle.lists.specs.Tests.{every, every_append, true-T}
 use Rattle.rules.specs.Limits.{small}
-use Rattle.rules.specs.Rows.{coefficients_of, width}
+use Rattle.rules.specs.Rows.{coefficients_of}
 use Rattle.rules.specs.Stores.{row_of}
 use Rattle.rules.specs.Layout.{coefficients_of-row_of-all}
 use Rattle.rules.specs.Elimination.{within, beyond}
@@ -25,12 +24,11 @@ use Rattle.log_steps.specs.Logs.{divides_all}
 use Rattle.log_steps.specs.Divisions.{content-exact}
 use Rattle.log_steps.specs.StoreChanges.{positive-size}
 use Rattle.log_steps.specs.StoreCombinations.{quotient_of, quotient-exact, quotient-inexact}
-use borrow.Author.Rules.{rules}
-use Rattle.log_steps.proofs.combining.exact_quotient.Statement.{statement}
-use Rattle.log_steps.proofs.combining.exact_quotient.Tie as tie
+use Rattle.log_steps.proofs.combining.exact_quotient.Goals as goal
+use Rattle.log_steps.proofs.combining.exact_quotient.Goals.{Else-not-divide_exactly-2, Start}
 
 -- the row, and the integer
-module _ (c : tie.Start) where
+module _ (c : Start) where
   abbrev row : WorkingRow
   row = c.args.row
 
@@ -44,7 +42,7 @@ module _ (c : tie.Start) where
   n = nat_abs c.args.d
 
   divisor : nat_abs (to_z w64 (of_z w64 c.args.d)) ≡ n
-  divisor = ap nat_abs (to_z-of_z c.ranges.d)
+  divisor = ap nat_abs (to_z-of_z {w = w64} c.ranges.d)
 
   same_left : divides_all (nat_abs (to_z w64 (of_z w64 c.args.d))) left ≡ divides_all n left
   same_left = ap (λ k. divides_all k left) divisor
@@ -78,7 +76,7 @@ module _ (c : tie.Start) where
   joined = divided-append n left right
 
   whole : coefficients_of (row_of numbers) ≡ numbers
-  whole = coefficients_of-row_of-all numbers (length-divide_by n (numbers_held row) ∙ length-held row c.requires.0.0)
+  whole = coefficients_of-row_of-all numbers (length-divide_by n (numbers_held row) ∙ length-held row c.requires.full.0)
 
   small-split : every small numbers ≡ (every small (divide_by n left) && every small (divide_by n right))
   small-split = ap (every small) joined ∙ every_append small (divide_by n left) (divide_by n right)
@@ -100,131 +98,72 @@ module _ (c : tie.Start) where
   new-worked e =
       worked-held (record { entries = divide_by n left; right = divide_by n right; width = row.width })
       (record {
-        entries-long = length-divide_by n left ∙ c.requires.0.0.entries-long;
-        right-long = length-divide_by n right ∙ c.requires.0.0.right-long;
+        entries-long = length-divide_by n left ∙ c.requires.full.0.entries-long;
+        right-long = length-divide_by n right ∙ c.requires.full.0.right-long;
       })
-      (c.requires.0.1 ∙ sym (divided-width n left (positive-size c.args.d c.requires.0.2) ((content-exact n left).0 (true-T _ e))))
+      (c.requires.full.1 ∙ sym (divided-width n left (positive-size c.args.d c.requires.full.2) ((content-exact n left).0 (true-T _ e))))
       ∙ ap (λ l. worked_row (within (row_of l))) (sym joined)
 
 -- the integer divides both parts
-module _ (q : tie.Else2) where
-  abbrev start : tie.Start
-  start = q.before.before.before.before.before.before.before.before.before.before
+module _ (q : Else-not-divide_exactly-2) where
+  abbrev start : Start
+  start = (goal.at.Else-not-divide_exactly-2 q).Start
 
   divided-left : (divides_all (n start) (left start) ≡ true)
-      × (q.before.before.before.before.before.before.divide-exactly.last.0 ≡ divide_by (n start) (left start))
-  divided-left = exact-left start q.before.before.before.before.before.before.divide-exactly.ensures (not-false _ q.before.before.before.before.if1.left)
+      × (q.divide_exactly.new.numbers ≡ divide_by (n start) (left start))
+  divided-left = exact-left start (q.divide_exactly.ensures.value, q.divide_exactly.ensures.numbers_after) (q.if-not-divide_exactly.false)
 
   divided-right : (divides_all (n start) (right start) ≡ true)
-      × (q.before.before.divide-exactly2.last.0 ≡ divide_by (n start) (right start))
-  divided-right = exact-right start q.before.before.divide-exactly2.ensures (not-false _ q.if2.left)
+      × (q.divide_exactly-2.new.numbers ≡ divide_by (n start) (right start))
+  divided-right = exact-right start (q.divide_exactly-2.ensures.value, q.divide_exactly-2.ensures.numbers_after) (q.if-not-divide_exactly-2.false)
 
-slice-aggregate-divide-exactly : tie.Need-slice-aggregate-divide-exactly
-slice-aggregate-divide-exactly c = search rules
-
-divide-exactly-requires : tie.Need-divide-exactly-requires
-divide-exactly-requires c κs = search rules
-
-broken-requires : tie.Need-broken-requires
-broken-requires c κs = search rules
-
-returns : tie.Need-returns
+pub returns-then-not-divide_exactly : goal.returns-then-not-divide_exactly
 unfolding refusal_of
-returns c =
-    let s = c.before.before.before.before.before.before.before in
-    let first = c.before.before.before.divide-exactly.ensures.0 ∙ same_left s in
-    let e = inexact s (ap (λ t. t && divides_all (n s) (right s)) (sym first ∙ not-true _ c.before.if1.true)) in
+returns-then-not-divide_exactly c =
+    let s = (goal.at.returns-then-not-divide_exactly c).Start in
+    let first = c.divide_exactly.ensures.value ∙ same_left s in
+    let e = inexact s (ap (λ t. t && divides_all (n s) (right s)) (sym first ∙ c.if-not-divide_exactly.true)) in
     (c.broken.ensures.0 ∙ sym (ap refusal_of e), c.broken.ensures.1 ∙ sym (ap worked_row e))
 
-slice-aggregate-divide-exactly-2 : tie.Need-slice-aggregate-divide-exactly-2
-slice-aggregate-divide-exactly-2 c = search rules
-
-divide-exactly-requires-2 : tie.Need-divide-exactly-requires-2
-divide-exactly-requires-2 c κs = search rules
-
-broken-requires-2 : tie.Need-broken-requires-2
-broken-requires-2 c κs = search rules
-
-returns-2 : tie.Need-returns-2
+pub returns-then-not-divide_exactly-2 : goal.returns-then-not-divide_exactly-2
 unfolding refusal_of
-returns-2 c =
-    let s = c.before.before.before.before.before.before.before.before.before.before.before in
-    let second = c.before.before.before.divide-exactly2.ensures.0 ∙ same-right s in
-    let e = inexact s (ap (λ t. divides_all (n s) (left s) && t) (sym second ∙ not-true _ c.before.if2.true)
+returns-then-not-divide_exactly-2 c =
+    let s = (goal.at.returns-then-not-divide_exactly-2 c).Start in
+    let second = c.divide_exactly-2.ensures.value ∙ same-right s in
+    let e = inexact s (ap (λ t. divides_all (n s) (left s) && t) (sym second ∙ c.if-not-divide_exactly-2.true)
     ∙ and-false (divides_all (n s) (left s))) in
-    (c.broken2.ensures.0 ∙ sym (ap refusal_of e), c.broken2.ensures.1 ∙ sym (ap worked_row e))
+    (c.broken-then-not-divide_exactly-2.ensures.0 ∙ sym (ap refusal_of e), c.broken-then-not-divide_exactly-2.ensures.1 ∙ sym (ap worked_row e))
 
-slice-aggregate-all-small : tie.Need-slice-aggregate-all-small
-slice-aggregate-all-small c = search rules
-
-all-small-requires : tie.Need-all-small-requires
-all-small-requires c κs = search rules
-
-broken-requires-3 : tie.Need-broken-requires-3
-broken-requires-3 c κs = search rules
-
-returns-3 : tie.Need-returns-3
+pub returns-then-not-all_small : goal.returns-then-not-all_small
 unfolding refusal_of
-returns-3 c =
-    let q = c.before.before.before.before in
+returns-then-not-all_small c =
+    let q = (goal.at.returns-then-not-all_small c).Else-not-divide_exactly-2 in
     let s = start q in
-    let past = ap (every small) (sym (divided-left q).1) ∙ sym c.before.before.all_small.ensures ∙ not-true _ c.before.if3.true in
+    let past = ap (every small) (sym (divided-left q).1) ∙ sym c.all_small.ensures ∙ c.if-not-all_small.true in
     let e = large s (divided-left q).0 (divided-right q).0 (ap (λ t. t && every small (divide_by (n s) (right s))) past) in
-    (c.broken3.ensures.0 ∙ sym (ap refusal_of e), c.broken3.ensures.1 ∙ sym (ap worked_row e))
+    (c.broken-then-not-all_small.ensures.0 ∙ sym (ap refusal_of e), c.broken-then-not-all_small.ensures.1 ∙ sym (ap worked_row e))
 
-slice-aggregate-all-small-2 : tie.Need-slice-aggregate-all-small-2
-slice-aggregate-all-small-2 c = search rules
-
-all-small-requires-2 : tie.Need-all-small-requires-2
-all-small-requires-2 c κs = search rules
-
-broken-requires-4 : tie.Need-broken-requires-4
-broken-requires-4 c κs = search rules
-
-returns-4 : tie.Need-returns-4
+pub returns-then-not-all_small-2 : goal.returns-then-not-all_small-2
 unfolding refusal_of
-returns-4 c =
-    let q = c.before.before.before.before.before.before.before in
+returns-then-not-all_small-2 c =
+    let q = (goal.at.returns-then-not-all_small-2 c).Else-not-divide_exactly-2 in
     let s = start q in
-    let past = ap (every small) (sym (divided-right q).1) ∙ sym c.before.before.all-small2.ensures ∙ not-true _ c.before.if4.true in
+    let past = ap (every small) (sym (divided-right q).1) ∙ sym c.all_small-2.ensures ∙ c.if-not-all_small-2.true in
     let first = every small (divide_by (n s) (left s)) in
     let e = large s (divided-left q).0 (divided-right q).0 (ap (λ t. first && t) past ∙ and-false first) in
-    (c.broken4.ensures.0 ∙ sym (ap refusal_of e), c.broken4.ensures.1 ∙ sym (ap worked_row e))
+    (c.broken-then-not-all_small-2.ensures.0 ∙ sym (ap refusal_of e), c.broken-then-not-all_small-2.ensures.1 ∙ sym (ap worked_row e))
 
-returns-5 : tie.Need-returns-5
+pub returns : goal.returns
 unfolding refusal_of
-returns-5 c =
-    let third = c.before.before.before in
-    let q = third.before.before.before in
+returns c =
+    let q = (goal.at.returns c).Else-not-divide_exactly-2 in
     let s = start q in
     let one = divided-left q in
     let two = divided-right q in
-    let little = ap (every small) (sym one.1) ∙ sym third.before.all_small.ensures ∙ not-false _ third.if3.false in
-    let also = ap (every small) (sym two.1) ∙ sym c.before.all-small2.ensures ∙ not-false _ c.if4.false in
+    let little = ap (every small) (sym one.1) ∙ sym c.all_small.ensures ∙ c.if-not-all_small.false in
+    let also = ap (every small) (sym two.1) ∙ sym c.all_small-2.ensures ∙ c.if-not-all_small-2.false in
     let e = within-limit s one.0 two.0 (ap₂ ◌&&◌ little also) in (
       sym (ap refusal_of e),
       ap₂ (λ a b. record { entries = a; right = b; width = s.args.row.width }) one.1 two.1 ∙ new-worked s one.0
           ∙ sym (ap worked_row e),
     )
-
-pub exact-quotient-spec : {M : Type 1} → statement M
-exact-quotient-spec =
-    tie.close
-    (tie.spec
-    slice-aggregate-divide-exactly
-    divide-exactly-requires
-    broken-requires
-    returns
-    slice-aggregate-divide-exactly-2
-    divide-exactly-requires-2
-    broken-requires-2
-    returns-2
-    slice-aggregate-all-small
-    all-small-requires
-    broken-requires-3
-    returns-3
-    slice-aggregate-all-small-2
-    all-small-requires-2
-    broken-requires-4
-    returns-4
-    returns-5)

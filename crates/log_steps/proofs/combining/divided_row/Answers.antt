@@ -35,12 +35,11 @@ use Rattle.log_steps.specs.Logs.{divides_all}
 use Rattle.log_steps.specs.Divisions.{combined, cut-exact, divided-past, divided-low}
 use Rattle.log_steps.specs.StoreChanges.{positive-size}
 use Rattle.log_steps.specs.StoreCombinations.{judged_row, quotient_of, judged-exact, judged-inexact, quotient-exact, quotient-inexact}
-use borrow.Author.Rules.{rules}
-use Rattle.log_steps.proofs.combining.divided_row.Statement.{statement}
-use Rattle.log_steps.proofs.combining.divided_row.Tie as tie
+use Rattle.log_steps.proofs.combining.divided_row.Goals as goal
+use Rattle.log_steps.proofs.combining.divided_row.Goals.{After-undivided_stored-u, Start}
 
 -- the two rows
-module _ (c : tie.Start) where
+module _ (c : Start) where
   abbrev g : Polynomial
   g = c.args.g.now
 
@@ -60,26 +59,25 @@ module _ (c : tie.Start) where
   combination = combined g h target pivot
 
   positive : 0 < d
-  positive = positive-size c.args.d c.requires.0
+  positive = positive-size c.args.d c.requires.t
 
   some : 0 < length g
-  some = omega (arith, c.requires.1.0.0)
+  some = omega (arith, c.requires.g_len.0)
 
   long : length target ≡ row_length
-  long = c.requires.1.1.0
+  long = c.requires.target_len.0
 
   stored : StoredFit g h target pivot
   stored =
-      let m = c.requires.1.0 in
-      let rows = c.requires.1.1 in record {
-        g-long = m.0;
-        g-small = m.1;
-        h-long = m.2;
-        h-small = m.3;
+      record {
+        g-long = c.requires.g_len.0;
+        g-small = c.requires.g_len.1;
+        h-long = c.requires.g_len.2;
+        h-small = c.requires.g_len.3;
         target-long = long;
-        target_small = rows.2;
-        pivot-long = rows.1;
-        pivot-small = rows.3;
+        target_small = c.requires.target_len.2;
+        pivot-long = c.requires.target_len.1;
+        pivot-small = c.requires.target_len.3;
       }
 
   fitted : RowsFit g h (loaded target 0) pivot (width (row_of pivot))
@@ -97,7 +95,7 @@ module _ (c : tie.Start) where
 
   tested : {t : Bool} → t ≡ divides_all (nat_abs (to_z w64 (of_z w64 c.args.d))) (coefficients_of combination)
       → t ≡ divides_all d (coefficients_of combination)
-  tested e = e ∙ ap (λ a. divides_all (nat_abs a) (coefficients_of combination)) (to_z-of_z c.ranges.d)
+  tested e = e ∙ ap (λ a. divides_all (nat_abs a) (coefficients_of combination)) (to_z-of_z {w = w64} c.ranges.d)
 
   -- the quotient of the undivided row is the new row
   quotient-judged : (w : WorkingRow) → low_degrees combination ≡ true → numbers_held w ≡ low_numbers part_count g h target pivot
@@ -123,19 +121,19 @@ module _ (c : tie.Start) where
       cases false e = quotient-inexact d w (same ∙ e) ∙ sym (judged-inexact d g h target pivot e)
 
 -- the undivided row
-module _ (u : tie.After-undivided-stored) where
-  abbrev start : tie.Start
-  start = u.before
+module _ (u : After-undivided_stored-u) where
+  abbrev start : Start
+  start = (goal.at.After-undivided_stored-u u).Start
 
   abbrev made : Combination
-  made = u.undivided-stored.result
+  made = u.undivided_stored-u.result
 
   past_is : made.beyond ≡ not (low_degrees (combination start))
   past_is =
-      ap (λ r. r.beyond) u.undivided-stored.ensures ∙ undivided-beyond (g start) (h start) (target start) (pivot start)
+      ap (λ r. r.beyond) u.undivided_stored-u.ensures ∙ undivided-beyond (g start) (h start) (target start) (pivot start)
 
   loaded-is : made ≡ undivided_of (g start) (h start) (numbers_held (loaded (target start) 0)) (pivot start)
-  loaded-is = u.undivided-stored.ensures ∙ ap (λ t. undivided_of (g start) (h start) t (pivot start)) (sym (held start))
+  loaded-is = u.undivided_stored-u.ensures ∙ ap (λ t. undivided_of (g start) (h start) t (pivot start)) (sym (held start))
 
   module _ (e : made.beyond ≡ false) where
     low : (undivided_of (g start) (h start) (numbers_held (loaded (target start) 0)) (pivot start)).beyond ≡ false
@@ -161,72 +159,63 @@ module _ (u : tie.After-undivided-stored) where
         ap (λ r. numbers_held r.row) whole ∙ wholly-held (fitted start) low
         ∙ ap (λ t. low_numbers part_count (g start) (h start) t (pivot start)) (held start)
 
-undivided-stored-requires : tie.Need-undivided-stored-requires
-undivided-stored-requires c κs = stored c
+pub undivided_stored-u-requires : goal.undivided_stored-u-requires
+undivided_stored-u-requires c = stored c
 
-divides-combination-requires : tie.Need-divides-combination-requires
-divides-combination-requires c κs =
-    let s = c.before.before in
-    let rows = s.requires.1.1 in
-    (rw (to_z-of_z s.ranges.d) (positive s), (s.requires.1.0, (rows.0, rows.1, rows.2, rows.3)))
+pub divides_combination-requires : goal.divides_combination-requires
+divides_combination-requires c =
+    let s = (goal.at.divides_combination-requires c).Start in
+    record {
+      d_nonzero = rw (to_z-of_z {w = w64} s.ranges.d) (positive s);
+      g_len = s.requires.g_len;
+      target_len = (s.requires.target_len.0, s.requires.target_len.1, s.requires.target_len.2, s.requires.target_len.3);
+    }
 
-broken-requires : tie.Need-broken-requires
-broken-requires c κs = search rules
-
-returns : tie.Need-returns
+pub returns-then-divides_combination : goal.returns-then-divides_combination
 unfolding refusal_of
-returns c =
-    let test = c.before.before in
-    let u = test.before.before in
+returns-then-divides_combination c =
+    let u = (goal.at.returns-then-divides_combination c).After-undivided_stored-u in
     let s = start u in
-    let past = is-past s (past_is u) test.before.if1.true in
-    let exact = sym (tested s test.divides-combination.ensures) ∙ c.before.if2.true in
+    let past = is-past s (past_is u) c.if-u.true in
+    let exact = sym (tested s c.divides_combination.ensures) ∙ c.if-divides_combination.true in
     let e = judged-exact (d s) (g s) (h s) (target s) (pivot s) exact
     ∙ divided-past (d s) (positive s) (combination s) (true-T _ exact) past in
-    (c.broken.ensures.0 ∙ sym (ap refusal_of e), c.broken.ensures.1 ∙ sym (ap worked_row e))
+    record {
+      refusal_value = c.broken.ensures.0 ∙ sym (ap refusal_of e);
+      row_value = c.broken.ensures.1 ∙ sym (ap worked_row e);
+    }
 
-broken-requires-2 : tie.Need-broken-requires-2
-broken-requires-2 c κs = search rules
-
-returns-2 : tie.Need-returns-2
+pub returns-then-u : goal.returns-then-u
 unfolding refusal_of
-returns-2 c =
-    let test = c.before.before in
-    let s = start test.before.before in
-    let inexact = sym (tested s test.divides-combination.ensures) ∙ c.before.if2.false in
+returns-then-u c =
+    let s = (goal.at.returns-then-u c).Start in
+    let inexact = sym (tested s c.divides_combination.ensures) ∙ c.if-divides_combination.false in
     let e = judged-inexact (d s) (g s) (h s) (target s) (pivot s) inexact in
-    (c.broken2.ensures.0 ∙ sym (ap refusal_of e), c.broken2.ensures.1 ∙ sym (ap worked_row e))
+    record {
+      refusal_value = c.broken-then-u.ensures.0 ∙ sym (ap refusal_of e);
+      row_value = c.broken-then-u.ensures.1 ∙ sym (ap worked_row e);
+    }
 
-exact-quotient-requires : tie.Need-exact-quotient-requires
-exact-quotient-requires c κs =
-    let u = c.before.before in
+pub exact_quotient-requires : goal.exact_quotient-requires
+exact_quotient-requires c =
+    let u = (goal.at.exact_quotient-requires c).After-undivided_stored-u in
     let s = start u in
-    let e = c.before.if1.false in (
-      (row-full u e, row-width u e, rw (to_z-of_z s.fits.d) s.pre.0),
-      (
+    let e = c.if-u.false in record {
+      full = (row-full u e, row-width u e, rw (to_z-of_z {w = w64} s.ranges.d) s.requires.t);
+      below = (
         subst (λ r. Below (2 ^ 63) r.row.entries) (sym (whole u e)) (below-part (2 ^ 63) 0 entries_length (numbers u e) (below u e)),
         subst (λ r. Below (2 ^ 63) r.row.right) (sym (whole u e)) (λ k. rw get_or-drop (below u e (entries_length + k))),
-      ),
-    )
+      );
+    }
 
-returns-3 : tie.Need-returns-3
-returns-3 c =
-    let u = c.before.before.before in
+pub returns : goal.returns
+returns c =
+    let u = (goal.at.returns c).After-undivided_stored-u in
     let s = start u in
-    let f = c.before.before.if1.false in
-    let e = (λ k. quotient_of (nat_abs (to_z-of_z s.fits.d k)) (made u).row)
+    let f = c.if-u.false in
+    let e = (λ k. quotient_of (nat_abs (to_z-of_z {w = w64} s.ranges.d k)) (made u).row)
     ∙ quotient-judged s (made u).row (low_of s (past_is u) f) (row-held u f) in
-    (c.exact-quotient.ensures.0 ∙ ap refusal_of e, c.exact-quotient.ensures.1 ∙ ap worked_row e)
-
-pub divided-row-spec : {M : Type 1} → statement M
-divided-row-spec =
-    tie.close
-    (tie.spec
-    undivided-stored-requires
-    divides-combination-requires
-    broken-requires
-    returns
-    broken-requires-2
-    returns-2
-    exact-quotient-requires
-    returns-3)
+    record {
+      refusal_value = c.exact_quotient.ensures.0 ∙ ap refusal_of e;
+      row_value = c.exact_quotient.ensures.1 ∙ ap worked_row e;
+    }

@@ -5,8 +5,6 @@ use mathlib.Core.Bool.{◌&&◌, not, true, and-false}
 use mathlib.Core.List.{List}
 use Prim.Native.Nat.{ℕ, ◌<◌}
 use native.Mathlib.Omega.{arith}
-use borrow.Author.Rules.{rules}
-use borrow.Author.Tests.{not-true, not-false}
 use lib.Dec.{T, ltb, eqb}
 use lib.IntN.{ℤ, nat_abs}
 use mir.Syntax.{w64}
@@ -27,11 +25,11 @@ use Rattle.log_steps.specs.Divisions.{combined, divided-storable}
 use Rattle.log_steps.specs.StoreChanges.{Begun, begun-few, begun-room, two-places, stepped_same, step-refused, combining-changed}
 use Rattle.log_steps.specs.StoreCombinations.{new_row, judged_row, judged-exact, exact-judged, inexact-judged, absent-combined}
 use Rattle.log_steps.specs.StoreCombinations.{combine-allowed}
-use Rattle.log_steps.proofs.combining.combine_rows.Statement.{statement}
-use Rattle.log_steps.proofs.combining.combine_rows.Tie as tie
+use Rattle.log_steps.proofs.combining.combine_rows.Goals as goal
+use Rattle.log_steps.proofs.combining.combine_rows.Goals.{After-divided_row-worked, Else-not-two_rows, Else-worked-eq13, Start}
 
 -- the arguments
-module _ (c : tie.Start) where
+module _ (c : Start) where
   abbrev rows : List ℤ
   rows = c.args.rows.now
 
@@ -57,21 +55,21 @@ module _ (c : tie.Start) where
   h = c.args.h.now
 
   ready : Ready rows relations p
-  ready = c.requires.0.0
+  ready = c.requires.ready.0
 
   none : p.settled ≡ 0
-  none = c.requires.0.1
+  none = c.requires.ready.1
 
   begun : Begun rows p
   begun = record { few-rows = ready.few-rows; rows-within = ready.rows-within; unsettled = none }
 
 -- both rows are present
-module _ (c : tie.Else1) where
-  abbrev start : tie.Start
-  start = c.before.before
+module _ (c : Else-not-two_rows) where
+  abbrev start : Start
+  start = (goal.at.Else-not-two_rows c).Start
 
   tested : ((ltb (i start) (p start).rows && ltb (j start) (p start).rows) && not (eqb (i start) (j start))) ≡ true
-  tested = sym c.before.two-rows.ensures ∙ not-false _ c.if1.false
+  tested = sym c.two_rows.ensures ∙ c.if-not-two_rows.false
 
   inside : i start < (p start).rows
   inside = (two-places (i start) (j start) (p start).rows tested).0
@@ -90,11 +88,11 @@ module _ (c : tie.Else1) where
       ∙ ap (λ t. t && (not (is_zero_of (g start)) && divides_all (d start) whole)) tested
 
 -- the new row
-module _ (c : tie.After-divided-row) where
-  abbrev passed : tie.Else1
-  passed = c.before.before.before.before.before.before
+module _ (c : After-divided_row-worked) where
+  abbrev passed : Else-not-two_rows
+  passed = (goal.at.After-divided_row-worked c).Else-not-two_rows
 
-  abbrev base : tie.Start
+  abbrev base : Start
   base = start passed
 
   abbrev target : List ℤ
@@ -104,151 +102,119 @@ module _ (c : tie.After-divided-row) where
   pivot = numbers_at (rows base) (j base)
 
   same_row : judged_row (nat_abs (to_z w64 (of_z w64 base.args.d))) (g base) (h base)
-      c.before.before.row-at.result.now c.before.row-at2.result.now
+      c.row_at-target.result.now c.row_at-pivot.result.now
       ≡ judged_row (d base) (g base) (h base) target pivot
   same_row k =
-      judged_row (nat_abs (to_z-of_z base.fits.d k)) (g base) (h base) (c.before.before.row-at.ensures.0 k)
-      (c.before.row-at2.ensures.0 k)
+      judged_row (nat_abs (to_z-of_z {w = w64} base.ranges.d k)) (g base) (h base) (c.row_at-target.ensures.result_value k)
+      (c.row_at-pivot.ensures.result_value k)
 
-  judged-is : c.divided-row.result.refusal ≡ refusal_of (judged_row (d base) (g base) (h base) target pivot)
-  judged-is = c.divided-row.ensures.0 ∙ ap refusal_of same_row
+  judged-is : c.divided_row-worked.result.refusal ≡ refusal_of (judged_row (d base) (g base) (h base) target pivot)
+  judged-is = c.divided_row-worked.ensures.refusal_value ∙ ap refusal_of same_row
 
-  row_is : c.divided-row.result.row ≡ worked_row (judged_row (d base) (g base) (h base) target pivot)
-  row_is = c.divided-row.ensures.1 ∙ ap worked_row same_row
+  row_is : c.divided_row-worked.result.row ≡ worked_row (judged_row (d base) (g base) (h base) target pivot)
+  row_is = c.divided_row-worked.ensures.row_value ∙ ap worked_row same_row
 
   nonzero : not (is_zero_of (g base)) ≡ true
   nonzero =
-      let test = c.before.before.before.before in
-      ap not (sym test.before.is_zero.ensures ∙ test.if2.false)
+      ap not (sym c.is_zero.ensures ∙ c.if-is_zero.false)
 
 -- the integer divides every coefficient
-module _ (c : tie.Else3) where
-  abbrev made : tie.After-divided-row
-  made = c.before.before
+module _ (c : Else-worked-eq13) where
+  abbrev made : After-divided_row-worked
+  made = (goal.at.Else-worked-eq13 c).After-divided_row-worked
 
-  abbrev origin : tie.Start
+  abbrev origin : Start
   origin = base made
 
   exact : divides_all (d origin) (whole (passed made)) ≡ true
   exact =
-      exact-judged (d origin) (g origin) (h origin) (target made) (pivot made) (λ z. c.if3.false (judged-is made ∙ z))
+      exact-judged (d origin) (g origin) (h origin) (target made) (pivot made) (λ z. c.if-worked-eq13.false (judged-is made ∙ z))
 
   new_is : judged_row (d origin) (g origin) (h origin) (target made) (pivot made)
       ≡ new_row (d origin) (g origin) (h origin) (target made) (pivot made)
   new_is = judged-exact (d origin) (g origin) (h origin) (target made) (pivot made) exact
 
-  shown : Shown made.divided-row.result.refusal made.divided-row.result.row
+  shown : Shown made.divided_row-worked.result.refusal made.divided_row-worked.result.row
       (new_row (d origin) (g origin) (h origin) (target made) (pivot made))
   shown = (judged-is made ∙ ap refusal_of new_is, row_is made ∙ ap worked_row new_is)
 
-two-rows-requires : tie.Need-two-rows-requires
-two-rows-requires c κs = search rules
-
-answer-requires : tie.Need-answer-requires
-answer-requires c κs = search rules
-
-returns : tie.Need-returns
-returns c =
-    let test = c.before.before in
-    let s = test.before in
+pub returns-then-not-two_rows : goal.returns-then-not-two_rows
+returns-then-not-two_rows c =
+    let s = (goal.at.returns-then-not-two_rows c).Start in
     λ D.
     stepped_same refl c.answer.ensures refl
     (step-refused D (ready s) (none s) (combining (i s) (j s) (d s) (g s) (h s))
     (absent-combined (ready s) (none s) (i s) (j s) (d s) (g s) (h s) D
-    (sym test.two-rows.ensures ∙ not-true _ c.before.if1.true)))
+    (sym c.two_rows.ensures ∙ c.if-not-two_rows.true)))
 
-is-zero-requires : tie.Need-is-zero-requires
-is-zero-requires c κs = search rules
-
-answer-requires-2 : tie.Need-answer-requires-2
-answer-requires-2 c κs = search rules
-
-returns-2 : tie.Need-returns-2
-returns-2 c =
-    let zero = c.before.before in
-    let e = zero.before in
+pub returns-then-is_zero : goal.returns-then-is_zero
+returns-then-is_zero c =
+    let e = (goal.at.returns-then-is_zero c).Else-not-two_rows in
     let s = start e in
     λ D.
-    stepped_same refl c.answer2.ensures refl
+    stepped_same refl c.answer-then-is_zero.ensures refl
     (step-refused D (ready s) (none s) (combining (i s) (j s) (d s) (g s) (h s))
-    (condition e D ∙ ap (λ t. not t && divides_all (d s) (whole e)) (sym zero.is_zero.ensures ∙ c.before.if2.true)))
+    (condition e D ∙ ap (λ t. not t && divides_all (d s) (whole e)) (sym c.is_zero.ensures ∙ c.if-is_zero.true)))
 
-mul-row-at : tie.Need-overflow-mul-row-at
-mul-row-at c =
-    let e = c.before.before.before in
+pub overflow_mul-i : goal.overflow_mul-i
+overflow_mul-i c =
+    let e = (goal.at.overflow_mul-i c).Else-not-two_rows in
     let s = start e in omega (arith, begun-few (begun s) (i s) (inside e))
 
-row-at-requires : tie.Need-row-at-requires
-row-at-requires c κs =
-    let e = c.before.before.before in
+pub row_at-target-requires : goal.row_at-target-requires
+row_at-target-requires c =
+    let e = (goal.at.row_at-target-requires c).Else-not-two_rows in
     let s = start e in begun-room (begun s) (i s) (inside e)
 
-mul-row-at-2 : tie.Need-overflow-mul-row-at-2
-mul-row-at-2 c =
-    let e = c.before.before.before.before in
+pub overflow_mul-j : goal.overflow_mul-j
+overflow_mul-j c =
+    let e = (goal.at.overflow_mul-j c).Else-not-two_rows in
     let s = start e in omega (arith, begun-few (begun s) (j s) (other e))
 
-row-at-requires-2 : tie.Need-row-at-requires-2
-row-at-requires-2 c κs =
-    let e = c.before.before.before.before in
+pub row_at-pivot-requires : goal.row_at-pivot-requires
+row_at-pivot-requires c =
+    let e = (goal.at.row_at-pivot-requires c).Else-not-two_rows in
     let s = start e in begun-room (begun s) (j s) (other e)
 
-divided-row-requires : tie.Need-divided-row-requires
-divided-row-requires c κs =
-    let second = c.row-at2.ensures in
-    let first = c.before.row-at.ensures in
-    let e = c.before.before.before.before.before in
+pub divided_row-worked-requires : goal.divided_row-worked-requires
+divided_row-worked-requires c =
+    let e = (goal.at.divided_row-worked-requires c).Else-not-two_rows in
     let s = start e in
-    let w = (ready s).rows-within in (
-      rw (to_z-of_z s.fits.d) s.pre.0.2,
-      (
-        s.pre.1,
-        (
-          first.1,
-          second.1,
-          subst (λ l. T (every small l)) (sym first.0) (small-numbers_at (p s).rows (rows s) w (i s) (inside e)),
-          subst (λ l. T (every small l)) (sym second.0) (small-numbers_at (p s).rows (rows s) w (j s) (other e)),
-        ),
-      ),
-    )
+    let w = (ready s).rows-within in record {
+      t = rw (to_z-of_z {w = w64} s.ranges.d) s.requires.ready.2;
+      g_len = s.requires.g_len;
+      target_len = (
+        c.row_at-target.ensures.result_len,
+        c.row_at-pivot.ensures.result_len,
+        subst (λ l. T (every small l)) (sym c.row_at-target.ensures.result_value) (small-numbers_at (p s).rows (rows s) w (i s) (inside e)),
+        subst (λ l. T (every small l)) (sym c.row_at-pivot.ensures.result_value) (small-numbers_at (p s).rows (rows s) w (j s) (other e)),
+      );
+    }
 
-answer-requires-3 : tie.Need-answer-requires-3
-answer-requires-3 c κs = search rules
-
-returns-3 : tie.Need-returns-3
-returns-3 c =
-    let q = c.before.before.before in
+pub returns-then-worked-eq13 : goal.returns-then-worked-eq13
+returns-then-worked-eq13 c =
+    let q = (goal.at.returns-then-worked-eq13 c).After-divided_row-worked in
     let e = passed q in
     let s = base q in
-    let inexact = inexact-judged (d s) (g s) (h s) (target q) (pivot q) (sym (judged-is q) ∙ c.before.if3.true) in
+    let inexact = inexact-judged (d s) (g s) (h s) (target q) (pivot q) (sym (judged-is q) ∙ c.if-worked-eq13.true) in
     λ D.
-    stepped_same refl c.answer3.ensures refl
+    stepped_same refl c.answer-then-worked-eq13.ensures refl
     (step-refused D (ready s) (none s) (combining (i s) (j s) (d s) (g s) (h s))
     (condition e D ∙ ap (λ t. not (is_zero_of (g s)) && t) inexact ∙ and-false (not (is_zero_of (g s)))))
 
-combine-allowed-requires : tie.Need-combine-allowed-requires
-combine-allowed-requires c κs =
-    let tested = c.before.before in
+pub combine_allowed-requires : goal.combine_allowed-requires
+combine_allowed-requires c =
+    let tested = (goal.at.combine_allowed-requires c).Else-worked-eq13 in
     let q = made tested in
     let s = base q in
-    let storable = divided-storable (g s) (h s) (target q) (pivot q) (omega (arith, s.pre.1.0))
+    let storable = divided-storable (g s) (h s) (target q) (pivot q) (omega (arith, s.requires.g_len.0))
     (length-numbers_at (p s).rows (rows s) (ready s).rows-within (i s) (inside (passed q))) (d s) in
     let full = subst Full (sym (shown tested).1) (full-worked (new_row (d s) (g s) (h s) (target q) (pivot q)) storable) in
-    ((ready s, none s, inside (passed q)), (s.pre.1.0, s.pre.1.1, full))
+    record { ready = (ready s, none s, inside (passed q)); g_len = (s.requires.g_len.0, s.requires.g_len.1, full) }
 
-same_length : tie.Need-same-length
-same_length c = search rules
-
-same-length-2 : tie.Need-same-length-2
-same-length-2 c = search rules
-
-same-length-3 : tie.Need-same-length-3
-same-length-3 c = search rules
-
-returns-4 : tie.Need-returns-4
-returns-4 c =
-    let call = c.before.before in
-    let tested = call.before.before.before in
+pub returns : goal.returns
+returns c =
+    let tested = (goal.at.returns c).Else-worked-eq13 in
     let q = made tested in
     let e = passed q in
     let s = base q in
@@ -256,27 +222,4 @@ returns-4 c =
     stepped_same refl refl
     (combining-changed D (state_of (rows s) (relations s) (p s)) (i s) (j s) (d s) (g s) (h s)
     (condition e D ∙ ap₂ ◌&&◌ (nonzero q) (exact tested)))
-    (call.combine-allowed.ensures (j s) (d s) (h s) (other e) (shown tested))
-
-pub combine-rows-spec : {M : Type 1} → statement M
-combine-rows-spec =
-    tie.close
-    (tie.spec
-    two-rows-requires
-    answer-requires
-    returns
-    is-zero-requires
-    answer-requires-2
-    returns-2
-    mul-row-at
-    row-at-requires
-    mul-row-at-2
-    row-at-requires-2
-    divided-row-requires
-    answer-requires-3
-    same_length
-    returns-3
-    combine-allowed-requires
-    same-length-2
-    same-length-3
-    returns-4)
+    (c.combine_allowed.ensures (j s) (d s) (h s) (other e) (shown tested))
