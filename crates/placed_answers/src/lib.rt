@@ -1,4 +1,6 @@
 // The answer to one sheet, put at the front of the output; and an output without one.
+#![tactic(auto)]
+
 ghost use Rattle.std.specs.Prelude.{◌≡◌, true, false, ◌+◌, ◌≤◌, length, take, replicate};
 ghost use Rattle.rules.specs.Stores.{largest_rows, relation_need};
 ghost use Rattle.rules.specs.Calls.{zeros};
