@@ -32,14 +32,17 @@ use Rattle.rules.specs.Layout.{size-bounds, stores-valid, length-rows_of, length
 use Rattle.rules.specs.Calls.{Result, Call, call_run, zeros, refusal, acceptance}
 use Rattle.theory.specs.Steps.{Refusal}
 use Rattle.theory.proofs.Steps.{step-refused}
-use Rattle.steps.specs.Budgets.{Walk, Walked, used-up, at-end, stopped, walked, row-of}
+use Rattle.steps.specs.Budgets.{Walk, Walked, used-up, at-end, stopped, row-of}
+use Rattle.steps.proofs.Budgets.{walked}
 use Rattle.steps.specs.HeldCalls.{Held, state_numbers_of, no_state_of, prepared, after_checks, prepare_call, check_state_of}
 use Rattle.steps.specs.HeldCalls.{StepsResult, StepsCall, steps_call, state_in_of, the_columns_of, sizes_held_of, pivots_right_of, moved_to}
 use Rattle.steps.specs.HeldCalls.{stopped_by_of, after_steps}
-use Rattle.steps.specs.BudgetParts.{added_steps, unless_refused, call_continued, whole_call, left-passes, calls-add, calls-whole}
+use Rattle.steps.specs.BudgetParts.{added_steps, unless_refused, call_continued, whole_call}
+use Rattle.steps.proofs.BudgetParts.{left-passes, calls-add, calls-whole}
 use Rattle.steps.specs.SoundStates.{prepared-passes, check_state-zero}
-use Rattle.steps.specs.HandedIn.{call_none}
-use Rattle.steps.specs.SmallSteps.{SmallSteps, steps-small}
+use Rattle.steps.proofs.HandedIn.{call_none}
+use Rattle.steps.specs.SmallSteps.{SmallSteps}
+use Rattle.steps.proofs.SmallSteps.{steps-small}
 use Rattle.reduction.specs.Progress.{most_steps}
 use Rattle.export_results.specs.Results.{Exported, run_need, none-checked, on_acceptance}
 use Rattle.exported_runs.specs.Runs.{run_numbers_of, ran}

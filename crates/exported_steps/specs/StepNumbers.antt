@@ -31,12 +31,14 @@ use Rattle.rules.specs.Layout.{size-bounds}
 use Rattle.rules.specs.Calls.{zeros, refusal, acceptance}
 use Rattle.theory.specs.Steps.{current, Refusal}
 use Rattle.theory.proofs.Steps.{step-refused}
-use Rattle.steps.specs.Budgets.{Walk, steps, Walked, used-up, at-end, stopped, walked, row-of}
+use Rattle.steps.specs.Budgets.{Walk, steps, Walked, used-up, at-end, stopped, row-of}
+use Rattle.steps.proofs.Budgets.{walked}
 use Rattle.steps.specs.HeldCalls.{Held, the_columns_of, state_in_of, state_numbers_of, sizes_held_of, pivots_right_of, check_state_of, StepsResult, StepsCall}
 use Rattle.steps.specs.HeldCalls.{moved_to, stopped_by_of, after_steps, unmoved, after_state_check, steps_call}
 use Rattle.steps.specs.SoundStates.{settled-most}
-use Rattle.steps.specs.HandedIn.{handed-sound}
-use Rattle.steps.specs.SmallSteps.{SmallState, steps-small}
+use Rattle.steps.proofs.HandedIn.{handed-sound}
+use Rattle.steps.specs.SmallSteps.{SmallState}
+use Rattle.steps.proofs.SmallSteps.{steps-small}
 use Rattle.exported_runs.specs.Times.{times-few}
 use Rattle.exported_runs.specs.Runs.{run_numbers_of, SmallResult}
 use Rattle.exported_steps.specs.StateNumbers.{state_need, held_in, counts_right_of}

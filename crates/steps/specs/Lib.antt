@@ -4,6 +4,5 @@ pub mod SoundStates
 pub mod BudgetParts
 pub mod Handed
 pub mod Moving
-pub mod HandedIn
 pub mod StepCalls
 pub mod SmallSteps

@@ -8,50 +8,30 @@
 --   progress_in x               the progress that a state which is handed in says
 --
 -- Main statements
---   state-in                   the stores hold the same state with it
---   held-ready                 a step may be made of a state that passes the checks
---   triangular-in              its settled rows are triangular
---   stands                     what is left of a run
---   call-moved, call-unmoved   the whole call
+--   call-unmoved               the whole call of a state that does not
 use Prim.Native.Nat.{ℕ, zero, suc, ◌≤◌}
-use Rattle.std.proofs.Common.{le_trans, le_of_eq, le_antisymm, mul-le-mul_left, sym, ◌∙◌, ap₂, leb-true}
-use Rattle.std.specs.Prelude.{◌≡◌, refl, ◌≢◌, Bool, true, false, not, List, T, ℤ, length, take}
-use Rattle.std.proofs.Math.Path.{ap, subst}
-use Rattle.lists.specs.Everywhere.{member-all}
-use Rattle.lists.specs.Padded.{pad_to, length-pad_to, take-pad_to}
-use Rattle.rules.specs.Limits.{column_count, most_equations}
-use Rattle.rules.specs.Rows.{entry, leading_block}
-use Rattle.rules.specs.Elimination.{leading, State, Outcome, going, done, refused, finished, diagonal, diagonal_place}
-use Rattle.rules.specs.Stores.{Sizes, equations, with_equations_of, span, rows_of, relations_of, row_need}
-use Rattle.rules.specs.Layout.{size-bounds, check_stores-zero}
+use Rattle.std.proofs.Common.{sym, ◌∙◌}
+use Rattle.std.specs.Prelude.{◌≡◌, refl, ◌≢◌, Bool, true, false, List, ℤ, length, take}
+use Rattle.std.proofs.Math.Path.{ap}
+use Rattle.lists.specs.Padded.{pad_to}
+use Rattle.rules.specs.Limits.{column_count}
+use Rattle.rules.specs.Elimination.{leading, State, Outcome, going, done, refused, diagonal}
+use Rattle.rules.specs.Stores.{Sizes, equations, with_equations_of, row_need}
 use Rattle.rules.specs.Calls.{Result, refusal, reported_order, acceptance}
-use Rattle.theory.specs.Steps.{going≢refused, going≢done, done≢refused, done-injective, refused-injective}
-use Rattle.algebra.specs.Pigeonhole.{Distinct}
-use Rattle.algebra.specs.Polynomials.{is_zero_of}
-use Rattle.theory.specs.Pivots.{PivotRows, order-distinct}
-use Rattle.theory.specs.Triangular.{Triangular, triangular-chain}
-use Rattle.theory.specs.Report.{nonzero-diagonal}
 use Rattle.working_rows.specs.Found.{Columns}
 use Rattle.sides.specs.Lent.{Within}
 use Rattle.sides.specs.FurthestRoots.{Nonzero}
-use Rattle.sides.specs.ReportLaws.{settled_state, diagonal-settled}
-use Rattle.reduction.specs.Progress.{Ready, state_of, outcome_of, outcome_at}
-use Rattle.reduction.specs.StepCases.{finished-at}
-use Rattle.reduction.specs.Ran.{progress_of, answer_for_of, rows_after_of, relations_after_of}
+use Rattle.sides.specs.ReportLaws.{settled_state}
+use Rattle.reduction.specs.Progress.{outcome_of}
 use Rattle.reduction.specs.declared.step.Progress.{Progress}
 use Rattle.reduction.specs.declared.step.Outcome as Answer
-use Rattle.runs.specs.CallLaws.{few-blocks, Checked, checked}
 use Rattle.runs.specs.CallLaws as RunLaws
-use Rattle.steps.specs.Budgets.{Walk, steps, Walked, used-up, at-end, stopped, walked, led-chain, row-of, refusal-number}
 use Rattle.steps.specs.HeldCalls as Calls
-use Rattle.steps.specs.HeldCalls.{Held, no_state_of, the_columns_of, state_in_of, held_state, StepsCall, moved_to, stopped_by_of, after_steps, unmoved}
-use Rattle.steps.specs.HeldCalls.{after_state_check, steps_call, check_state_of, sizes_held_of}
-use Rattle.steps.specs.SoundStates.{HeldBounds, sizes_held-iff, StateRight, check_state-zero, pivots-right}
-use Rattle.steps.specs.Handed.{held_of, held-few, held-columns, columns-count, columns-taken}
-use Rattle.steps.specs.HandedIn.{handed-triangular}
-use Rattle.steps.specs.Moving.{walk_of, MovedTo}
+use Rattle.steps.specs.HeldCalls.{Held, no_state_of, the_columns_of, StepsCall, unmoved}
+use Rattle.steps.specs.HeldCalls.{after_state_check, steps_call, check_state_of}
+use Rattle.steps.specs.SoundStates.{HeldBounds, sizes_held-iff, check_state-zero}
+use Rattle.steps.specs.Handed.{held_of}
 use Rattle.steps.specs.declared.StepsResult.{StepsResult}
-use Rattle.steps.specs.declared.moving.Moved.{Moved}
 
 unfoldable pub result_of : StepsResult → Calls.StepsResult
 unfolding held_of
@@ -109,58 +89,6 @@ module _ (D : ℕ) (r : Result) (s : State) where
   unfolding run_after outcome_of
   run-done n d e f g = rw (e, f) g
 
--- The progress of a state gives the state back.
-held-progress : (z : Sizes) (s : State) → length s.order ≤ column_count → held_by z (progress_of s) ≡ held_state z s
-unfolding held_by progress_of held_state
-held-progress z s few =
-    ap (λ l. record {
-      sizes = with_equations_of (length s.rows) z;
-      relations = length s.relations;
-      settled = length s.order;
-      order = reported_order l;
-      shifts = s.shifts;
-    }) (take-pad_to column_count 0 s.order few)
-
--- ---- the whole call by its parts
-
-module _ (z : Sizes) (taken : ℕ) (row_store relation_store : List ℤ) where
-  abbrev parts : Outcome → Answer.Outcome → StepsCall
-  parts x o =
-      record {
-        result = record { steps = taken; finished = o.done; state = state_after_of z o.refusal o.progress; run = run_after (span z) x };
-        row_store = rows_after_of (equations z) x row_store;
-        relation_store = relations_after_of x relation_store;
-      }
-
-  call-parts : (x : Outcome) (o : Answer.Outcome) → x ≢ refused 0 → o ≡ answer_for_of (equations z) x → o.progress.settled ≤ column_count
-      → parts x o ≡ after_steps z taken x row_store relation_store
-  unfolding answer_for_of state_after_of run_after rows_after_of relations_after_of after_steps moved_to stopped_by_of progress_of
-  call-parts (going s) o n e few =
-      ap (parts (going s)) e
-      ∙ ap (λ h. record {
-        result = record { steps = taken; finished = false; state = h; run = refusal 0 };
-        row_store = rows_after_of (equations z) (going s) row_store;
-        relation_store = relations_after_of (going s) relation_store;
-      }) (held-progress z s (subst (λ a. a.progress.settled ≤ column_count) e few))
-  call-parts (done s) o n e few =
-      ap (parts (done s)) e
-      ∙ ap (λ h. record {
-        result = record { steps = taken; finished = true; state = h; run = acceptance leading (span z) s };
-        row_store = rows_after_of (equations z) (done s) row_store;
-        relation_store = relations_after_of (done s) relation_store;
-      }) (held-progress z s (subst (λ a. a.progress.settled ≤ column_count) e few))
-  call-parts (refused zero) o n e few = absurd (n refl)
-  call-parts (refused (suc k)) o n e few = ap (parts (refused (suc k))) e
-
--- The number of a refusal is not 0.
-walk_refused : (k : ℕ) (s : State) → (steps leading k s).outcome ≢ refused 0
-walk_refused k s = go (walked leading k s)
-  where
-    go : {w : Walk} → Walked leading s k w → w.outcome ≢ refused 0
-    go (used-up l e) f = going≢refused f
-    go (at-end h l e) f = done≢refused f
-    go (stopped {n = n} {u} h l e g) f = refusal-number leading u n (row-of u e) g (refused-injective f)
-
 -- ---- a state that is handed in
 
 unfoldable pub progress_in : Held → Progress
@@ -176,58 +104,6 @@ progress_in x =
 
 pub passed-bounds : (x : Held) (row_store relation_store : List ℤ) → check_state_of x row_store relation_store ≡ 0 → HeldBounds x
 passed-bounds x row_store relation_store passed = (sizes_held-iff x).0 ((check_state-zero x row_store relation_store).0 passed).sizes
-
-module _ (x : Held) (row_store relation_store : List ℤ) (four : length x.order ≡ column_count)
-    (passed : check_state_of x row_store relation_store ≡ 0) where
-  right : StateRight x row_store relation_store
-  right = (check_state-zero x row_store relation_store).0 passed
-
-  bounds : HeldBounds x
-  bounds = passed-bounds x row_store relation_store passed
-
-  pub state-in : state_of row_store relation_store (progress_in x) ≡ state_in_of x row_store relation_store
-  unfolding state_of state_in_of progress_in
-  state-in = λ i. record {
-    rows = rows_of (equations x.sizes) row_store;
-    relations = relations_of x.relations relation_store;
-    order = columns-taken x bounds four i;
-    shifts = x.shifts;
-  }
-
-  stored : Checked x.sizes x.relations row_store relation_store
-  stored = checked x.sizes x.relations row_store relation_store
-      ((check_stores-zero x.sizes x.relations row_store relation_store).1 (record {
-        sizes = bounds.sizes;
-        few = bounds.few-relations;
-        lengths = right.lengths;
-        numbers = right.numbers;
-      }))
-
-  -- A step may be made of it.
-  pub held-ready : Ready row_store relation_store (progress_in x)
-  unfolding progress_in
-  held-ready =
-      record {
-        few-rows = (size-bounds x.sizes bounds.sizes).few-equations;
-        rows-within = stored.rows-within;
-        listing = stored.listing;
-        settled = bounds.few-rows;
-        few-settled = held-few x bounds;
-        different = subst Distinct (sym (columns-taken x bounds four))
-            (order-distinct (the_columns_of x) (rows_of (equations x.sizes) row_store)
-            (subst (λ w. PivotRows w (the_columns_of x) (rows_of (equations x.sizes) row_store)) (sym (columns-count x bounds four))
-            ((pivots-right (the_columns_of x) (rows_of (equations x.sizes) row_store) x.settled
-            (le_of_eq (sym (columns-count x bounds four)))).0 right.pivots)));
-        four = length-pad_to column_count 0 (the_columns_of x);
-        columns = held-columns x bounds;
-        padded = ap (pad_to column_count 0) (sym (columns-taken x bounds four));
-      }
-
-  pub triangular-in : Triangular (state_of row_store relation_store (progress_in x))
-  triangular-in = subst Triangular (sym state-in) (handed-triangular x row_store relation_store passed four)
-
-  pub held-shifts : x.shifts ≤ 24
-  held-shifts = le_trans bounds.few-shifts (mul-le-mul_left most_equations (few-blocks x.sizes bounds.sizes))
 
 -- ---- the whole call
 
@@ -256,94 +132,3 @@ call-unmoved budget x row_store relation_store (suc n) run h e f =
       row_store = row_store;
       relation_store = relation_store;
     }) f ∙ ap (after_state_check budget x row_store relation_store) e
-
-done-finished : (k : ℕ) (s v : State) → (steps leading k s).outcome ≡ done v → finished v ≡ true
-done-finished k s v = go (walked leading k s)
-  where
-    go : {w : Walk} → Walked leading s k w → w.outcome ≡ done v → finished v ≡ true
-    go (used-up l e) f = absurd (going≢done f)
-    go (at-end h l e) f = subst (λ u. finished u ≡ true) (done-injective f) e
-    go (stopped h l e g) f = absurd (done≢refused (sym f))
-
-done-triangular : (k : ℕ) (s v : State) → Triangular s → (steps leading k s).outcome ≡ done v → Triangular v
-done-triangular k s v t = go (walked leading k s)
-  where
-    go : {w : Walk} → Walked leading s k w → w.outcome ≡ done v → Triangular v
-    go (used-up l e) f = absurd (going≢done f)
-    go (at-end h l e) f = subst Triangular (done-injective f) (triangular-chain (led-chain l) t)
-    go (stopped h l e g) f = absurd (done≢refused (sym f))
-
-triangular-nonzero : (D : ℕ) (s : State) → Triangular s → Nonzero (diagonal leading D s)
-unfolding diagonal_place entry leading_block
-triangular-nonzero D s t =
-    member-all (λ p. T (not (is_zero_of p))) (diagonal leading D s) (nonzero-diagonal leading D s (λ j h k. (t.pivots j k).diagonal))
-
--- What a run has left.
-pub stands : (D : ℕ) {first : Progress} {budget : ℕ} {rows relations rows' relations' : List ℤ} {r : Moved}
-    → Triangular (state_of rows relations first) → MovedTo first budget rows relations rows' relations' r → Stands D rows' r.outcome
-unfolding outcome_of state_of
-stands D {first} {budget} {rows} {relations} {rows'} {relations'} {r} t m =
-    record {
-      rows-within = ready.rows-within;
-      few-settled = ready.few-settled;
-      four = ready.four;
-      columns = ready.columns;
-      all_settled = all_settled;
-      nonzero = λ e d.
-          subst Nonzero
-          (diagonal-settled leading D o.progress.settled rows' o.progress.order v (ap (λ n. rows_of n rows') (all_settled e d)) refl)
-          (triangular-nonzero D v (done-triangular budget (state_of rows relations first) v t (came e d)));
-    }
-  where
-    o : Answer.Outcome
-    o = r.outcome
-
-    v : State
-    v = state_of rows' relations' o.progress
-
-    ready : Ready rows' relations' o.progress
-    ready = m.ran.reached.ready
-
-    came : o.refusal ≡ 0 → o.done ≡ true → (walk_of first budget rows relations).outcome ≡ done v
-    came e d = sym m.ran.reached.outcome ∙ ap₂ (λ n b. outcome_of n b v) e d
-
-    all_settled : o.refusal ≡ 0 → o.done ≡ true → o.progress.rows ≡ o.progress.settled
-    all_settled e d =
-        le_antisymm
-        (leb-true o.progress.rows o.progress.settled
-        (sym (finished-at leading ready) ∙ done-finished budget (state_of rows relations first) v (came e d)))
-        ready.settled
-
-pub call-moved : (budget : ℕ) (x : Held) (row_store relation_store : List ℤ) → length x.order ≡ column_count
-    → check_state_of x row_store relation_store ≡ 0 → {first : Progress} {rows' relations' : List ℤ} {r : Moved}
-    → MovedTo first budget row_store relation_store rows' relations' r → first ≡ progress_in x → (state : Held) (run : Result)
-    → state ≡ state_after_of x.sizes r.outcome.refusal r.outcome.progress
-    → run ≡ run_after (span x.sizes) (outcome_at rows' relations' r.outcome)
-    → record {
-      result = record { steps = r.taken; finished = r.outcome.done; state = state; run = run };
-      row_store = rows';
-      relation_store = relations';
-    } ≡ steps_call budget x row_store relation_store
-unfolding progress_in steps_call after_state_check
-call-moved budget x row_store relation_store four passed {first} {rows'} {relations'} {r} left same state run e f =
-    (λ i. record {
-      result = record {
-        steps = m.taken i;
-        finished = r.outcome.done;
-        state = e i;
-        run = (f ∙ ap (run_after (span x.sizes)) m.ran.reached.outcome) i;
-      };
-      row_store = m.ran.rows-after i;
-      relation_store = m.ran.relations-after i;
-    })
-    ∙ call-parts x.sizes walk.taken row_store relation_store walk.outcome r.outcome
-    (walk_refused budget (state_of row_store relation_store (progress_in x))) m.ran.answer m.ran.reached.ready.few-settled
-    ∙ ap (λ s. after_steps x.sizes (steps leading budget s).taken (steps leading budget s).outcome row_store relation_store)
-    (state-in x row_store relation_store four passed)
-    ∙ ap (after_state_check budget x row_store relation_store) (sym passed)
-  where
-    m : MovedTo (progress_in x) budget row_store relation_store rows' relations' r
-    m = subst (λ p. MovedTo p budget row_store relation_store rows' relations' r) same left
-
-    walk : Walk
-    walk = walk_of (progress_in x) budget row_store relation_store

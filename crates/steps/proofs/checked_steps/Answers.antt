@@ -8,8 +8,9 @@ use Rattle.steps.specs.HeldCalls.{Held, the_columns_of}
 use Rattle.steps.specs.SoundStates.{HeldBounds}
 use Rattle.steps.specs.Handed.{held_of, held-few, held-positive}
 use Rattle.runs.specs.CallLaws as RunLaws
-use Rattle.steps.specs.StepCalls.{result_of, call_of, progress_in, passed-bounds, held-ready, held-shifts, triangular-in, stands}
-use Rattle.steps.specs.StepCalls.{call-moved}
+use Rattle.steps.specs.StepCalls.{result_of, call_of, progress_in, passed-bounds}
+use Rattle.steps.proofs.StepCalls.{held-ready, held-shifts, triangular-in, stands}
+use Rattle.steps.proofs.StepCalls.{call-moved}
 use Rattle.steps.proofs.checked_steps.Goals as goal
 use Rattle.steps.proofs.checked_steps.Goals.{Start}
 

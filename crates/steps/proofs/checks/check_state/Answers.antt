@@ -1,10 +1,10 @@
 -- `steps::checks::check_state` meets its contract. The sizes are tested first, then what a run tests of its stores, then the settled rows.
 -- Assumes nothing.
 use mathlib.Core.Path.{◌≡◌, sym, ◌∙◌, ap}
-use mathlib.Core.Bool.{true, cond}
+use mathlib.Core.Bool.{true, false, cond}
 use mathlib.Core.List.{List}
 use Prim.Native.Nat.{ℕ}
-use borrow.Author.Tests.{not-true, not-false}
+use borrow.Author.Rules.{rules}
 use lib.IntN.{ℤ}
 use lib.ListN.{length}
 use Rattle.lists.specs.Tests.{true-T}
@@ -15,7 +15,7 @@ use Rattle.steps.specs.SoundStates.{HeldBounds, sizes_held-iff}
 use Rattle.steps.specs.Handed.{held_of, sizes-fail, too_short, numbers-fail, pivots-tell, held-few, held-positive, held-columns}
 use Rattle.steps.specs.Handed.{held-room, pivots-held}
 use Rattle.steps.proofs.checks.check_state.Goals as goal
-use Rattle.steps.proofs.checks.check_state.Goals.{After-check_stores-checked, After-counted-1, After-pivots_right, Start}
+use Rattle.steps.proofs.checks.check_state.Goals.{After-check_stores-checked, Else-checked-ne0, After-pivots_right, Start}
 
 -- the sizes hold, and what a run tests of the stores
 module _ (c : After-check_stores-checked) where
@@ -42,9 +42,9 @@ module _ (c : After-check_stores-checked) where
   stored = c.check_stores-checked.ensures
 
 -- nothing is wrong with the stores
-module _ (c : After-counted-1) where
+module _ (c : Else-checked-ne0) where
   abbrev checked : After-check_stores-checked
-  checked = (goal.at.After-counted-1 c).After-check_stores-checked
+  checked = (goal.at.Else-checked-ne0 c).After-check_stores-checked
 
   none : check_stores_of (x checked).sizes (x checked).relations (rows checked) (relations checked) ≡ 0
   none = sym (stored checked) ∙ c.if-checked-ne0.false
@@ -52,7 +52,7 @@ module _ (c : After-counted-1) where
 -- the test of the settled rows
 module _ (c : After-pivots_right) where
   abbrev before : After-check_stores-checked
-  before = checked (goal.at.After-pivots_right c).After-counted-1
+  before = checked (goal.at.After-pivots_right c).Else-checked-ne0
 
   four : length (x before).order ≡ column_count
   unfolding held_of
@@ -68,7 +68,7 @@ module _ (c : After-pivots_right) where
 
   told : cond c.pivots_right.result 0 11 ≡ check_state_of (x before) (rows before) (relations before)
   told = ap (λ t. cond t 0 11) tested
-      ∙ pivots-tell (x before) (rows before) (relations before) (hold before) (none (goal.at.After-pivots_right c).After-counted-1)
+      ∙ pivots-tell (x before) (rows before) (relations before) (hold before) (none (goal.at.After-pivots_right c).Else-checked-ne0)
 
 pub returns-then-not-sizes_held : goal.returns-then-not-sizes_held
 returns-then-not-sizes_held c =
@@ -89,24 +89,25 @@ returns-then-checked-ne0 c =
 
 pub from_zero-order-requires : goal.from_zero-order-requires
 unfolding held_of
-from_zero-order-requires c = let b = checked c in (held-few (x b) (bounds b), held-positive (x b) (bounds b))
+from_zero-order-requires c =
+    let b = checked (goal.at.from_zero-order-requires c).Else-checked-ne0 in
+    (held-few (x b) (bounds b), held-positive (x b) (bounds b))
 
 pub pivots_right-requires : goal.pivots_right-requires
 unfolding held_of the_columns_of
 pivots_right-requires c =
-    let after = (goal.at.pivots_right-requires c).After-counted-1 in
-    let b = checked after in (
+    let b = checked (goal.at.pivots_right-requires c).Else-checked-ne0 in (
       held-few (x b) (bounds b),
-      held-room (x b) (bounds b) (rows b) (relations b) (none after),
+      held-room (x b) (bounds b) (rows b) (relations b) (none (goal.at.pivots_right-requires c).Else-checked-ne0),
       rw c.from_zero-order.ensures.0 (held-columns (x b) (bounds b)),
     )
 
 pub returns-then-not-pivots_right : goal.returns-then-not-pivots_right
 returns-then-not-pivots_right c =
-    let failed = not-true c.pivots_right.result c.if-not-pivots_right.true-raw in
+    let failed : c.pivots_right.result ≡ false = search rules in
     sym (ap (λ t. cond {A = ℕ} t 0 11) failed) ∙ told (goal.at.returns-then-not-pivots_right c).After-pivots_right
 
 pub returns : goal.returns
 returns c =
-    let passed = not-false c.pivots_right.result c.if-not-pivots_right.false-raw in
+    let passed : c.pivots_right.result ≡ true = search rules in
     sym (ap (λ t. cond {A = ℕ} t 0 11) passed) ∙ told (goal.at.returns c).After-pivots_right

@@ -5,7 +5,8 @@ use mathlib.Core.Logic.{◌⊎◌, inl, inr}
 use Prim.Native.Nat.{◌≤◌, ◌<◌, zero-le}
 use native.Mathlib.Omega.{arith}
 use Rattle.reduction.specs.Unused.{none-unused}
-use Rattle.steps.specs.Moving.{move-starts, moving-shifts, move-goes, move-refused, move-stops}
+use Rattle.steps.specs.Moving.{move-starts}
+use Rattle.steps.proofs.MovingLemmas.{moving-shifts, move-goes, move-refused, move-stops}
 use Rattle.steps.proofs.moving.take_steps.Goals as goal
 use Rattle.steps.proofs.moving.take_steps.Goals.{At-loop-taken, Left-loop-taken, Then-p, then-loop-taken-test+else-p, else-loop-taken-test}
 

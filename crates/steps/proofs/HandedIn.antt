@@ -30,7 +30,8 @@ use Rattle.theory.specs.Cells.{total_of-bound, total_width, width-le-length}
 use Rattle.theory.specs.Ending.{measure}
 use Rattle.theory.proofs.Ending.{chain-measure}
 use Rattle.reduction.specs.Progress.{most_steps}
-use Rattle.steps.specs.Budgets.{Walk, standing, steps, Led, Walked, used-up, at-end, stopped, walked, led-chain, row-of}
+use Rattle.steps.specs.Budgets.{Walk, standing, steps, Led, Walked, used-up, at-end, stopped, led-chain, row-of}
+use Rattle.steps.proofs.Budgets.{walked}
 use Rattle.steps.specs.HeldCalls.{Held, the_columns_of, state_in_of, held_state, moved_to, after_steps, after_state_check, steps_call, check_state_of}
 use Rattle.steps.specs.SoundStates.{HeldBounds, StateRight, check_state-zero, sizes_held-iff, pivots-right, Sound, sound-kept}
 use Rattle.theory.specs.LimitsKept.{valid-rows}
