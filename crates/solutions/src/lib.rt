@@ -22,6 +22,7 @@ mod trailing;
 // The number of the refusal or 0; whether the work began, which writes the stores; whether there is an N from 0 on, and which; and the
 // number of the listed sequences (SCOPE 14.62 to 14.64).
 #[derive(Drop)]
+#[derive(Clone, Copy)]
 pub struct SolutionsResult {
     pub refusal: u8,
     pub begun: bool,
