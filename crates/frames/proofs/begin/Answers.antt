@@ -1,7 +1,7 @@
 -- `frames::begin` meets its contract: the window decides the line.
 -- Assumes nothing.
 use mathlib.Core.Path.{◌∙◌, ap}
-use borrow.Author.Rules.{rules, sfits_of}
+use borrow.Author.Rules.{sfits_of}
 use lib.IntN.{ℤ}
 use mir.Syntax.{w64}
 use mir.Val.{SFits}
@@ -39,8 +39,10 @@ pub returns : goal.returns
 unfolding read_count
 returns c =
     let told = (goal.at.returns c).After-struct_told-1 in
-    ap (λ b. record { refusal = 0; taken = told.number_between-n.result.at; batch = b }) (rw (to_z-of_z {w = w64} (k-fits told)) at c.uncounted-2.ensures)
+    ap (λ b. record { refusal = 0; taken = told.number_between-n.result.at; batch = b })
+    (rw (to_z-of_z {w = w64} (k-fits told)) at c.uncounted-2.ensures)
     ∙ begun-read
     (window-of told.args.bytes.now
     told.window.ensures)
-    told.number_between-n.result.value told.number_between-n.result.at (answer-got told.if-n-ne0.false told.number_between-n.ensures.answers) told.number_between-n.ensures.answers.within
+    told.number_between-n.result.value told.number_between-n.result.at
+    (answer-got told.if-n-ne0.false told.number_between-n.ensures.answers) told.number_between-n.ensures.answers.within

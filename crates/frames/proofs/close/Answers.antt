@@ -4,7 +4,6 @@ use mathlib.Core.Path.{◌∙◌, ap}
 use native.Mathlib.Omega.{arith}
 use Rattle.frames.specs.Pieces.{text_of}
 use Rattle.frames.specs.Lines.{close-left, close-over, close-accepted, close-refused, close-tally}
-use borrow.Author.Rules.{rules}
 use Rattle.frames.proofs.close.Goals as goal
 
 pub returns-then-batch-ne0 : goal.returns-then-batch-ne0
@@ -25,7 +24,8 @@ returns-then-in_all-gt-SHEETS c =
 pub returns-then-in_all-gt-SHEETS-2 : goal.returns-then-in_all-gt-SHEETS-2
 returns-then-in_all-gt-SHEETS-2 c =
     let args = c.args in
-    c.refusal_line-then-in_all-gt-SHEETS-2.ensures ∙ ap text_of (close-refused args.batch args.over (omega arith) (omega arith) (omega arith))
+    c.refusal_line-then-in_all-gt-SHEETS-2.ensures
+    ∙ ap text_of (close-refused args.batch args.over (omega arith) (omega arith) (omega arith))
 
 pub returns : goal.returns
 returns c =

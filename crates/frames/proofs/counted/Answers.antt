@@ -1,7 +1,6 @@
 -- `frames::counted` meets its contract.
 -- Assumes nothing.
 use Rattle.frames.specs.Lines.{stays-empty, counts-accepted, counts-refused}
-use borrow.Author.Rules.{rules}
 use Rattle.frames.proofs.counted.Goals as goal
 
 pub returns-then-batch-eq0 : goal.returns-then-batch-eq0

@@ -1,10 +1,10 @@
 -- `frames::in_all` meets its contract. The loop's invariant: the sum is that of the counts passed, and at most 1,000.
 -- Assumes nothing.
-use Prim.Native.Nat.{suc, ◌≤◌, ◌-◌}
+use Prim.Native.Nat.{suc}
 use mathlib.Core.Path.{◌≡◌, refl, ap}
 use native.Mathlib.Numerals.{add-one}
 use native.Mathlib.Omega.{arith}
-use lib.ListN.{length, take}
+use lib.ListN.{length}
 use lib.Seq.{take_all}
 use Rattle.lists.specs.Totals.{total, total-next, total-front}
 use Rattle.rules.specs.Batch.{client_count}

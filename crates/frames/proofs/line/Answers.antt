@@ -13,7 +13,6 @@ use Rattle.rules.specs.Numbers.{got}
 use Rattle.tokens.specs.Fields.{answer-got, answer-fault}
 use Rattle.tokens.specs.Windows.{Window, client_of, count_of}
 use Rattle.frames.specs.Lines.{window-of, line-no-client, line-no-size, line_read, in-range}
-use borrow.Author.Rules.{rules}
 use Rattle.frames.proofs.line.Goals as goal
 use Rattle.frames.proofs.line.Goals.{Else-size-ne0}
 

@@ -2,7 +2,6 @@
 -- Assumes nothing.
 use Rattle.number_texts.specs.Runs.{put_then, put_same}
 use Rattle.frames.specs.Lines.{two-numbers}
-use borrow.Author.Rules.{rules}
 use Rattle.frames.proofs.put_pair.Goals as goal
 
 pub returns : goal.returns

@@ -1,13 +1,10 @@
 -- `frames::put_tally` meets its contract. The loop's invariant: the lines of the clients from i on are still to be written.
 -- Assumes nothing.
-use Prim.Native.Nat.{◌≤◌, ◌-◌, ◌*◌}
 use mathlib.Core.Path.{refl}
 use native.Mathlib.Omega.{arith}
-use Rattle.rules.specs.Numbers.{lines}
-use Rattle.rules.specs.Batch.{Tally, client_count, tally_lines}
-use Rattle.number_texts.specs.Runs.{Going, going-first, going_next, going-last}
-use Rattle.frames.specs.Lines.{pair_bytes, lines_from, lines_next, lines_end}
-use borrow.Author.Rules.{rules}
+use Rattle.rules.specs.Batch.{Tally, tally_lines}
+use Rattle.number_texts.specs.Runs.{going-first, going_next, going-last}
+use Rattle.frames.specs.Lines.{lines_next, lines_end}
 use Rattle.frames.proofs.put_tally.Goals as goal
 
 pub loop-i-init : goal.loop-i-init

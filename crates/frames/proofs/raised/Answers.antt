@@ -2,7 +2,6 @@
 -- Assumes nothing.
 use native.Mathlib.Omega.{arith}
 use Rattle.frames.specs.Lines.{raised-no-client, raised-past, raised-full, raised-more}
-use borrow.Author.Rules.{rules}
 use Rattle.frames.proofs.raised.Goals as goal
 
 pub returns-then-client-lt1 : goal.returns-then-client-lt1

@@ -1,6 +1,5 @@
 -- `frames::refusal_line` meets its contract.
 -- Assumes nothing.
-use borrow.Author.Rules.{rules}
 use Rattle.frames.specs.Lines.{text-count}
 use Rattle.frames.proofs.refusal_line.Goals as goal
 

@@ -2,7 +2,6 @@
 -- Assumes nothing.
 use Rattle.rules.specs.Batch.{Tally}
 use Rattle.frames.specs.Lines.{text-tally}
-use borrow.Author.Rules.{rules}
 use Rattle.frames.proofs.tally_text.Goals as goal
 
 pub returns : goal.returns
