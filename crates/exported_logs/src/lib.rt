@@ -1,4 +1,6 @@
 // The replay of a log, and our own run with its log: results as numbers of a lent store.
+#![tactic(auto)]
+
 ghost use Rattle.std.specs.Prelude.{◌≡◌, [], ◌∷◌, ◌++◌, ◌≤◌, pos, length};
 ghost use Rattle.stores.specs.Validity.{the_sizes_of};
 ghost use Rattle.runs.specs.CallLaws.{result_of};
