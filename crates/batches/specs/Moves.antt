@@ -131,10 +131,13 @@ Decided breaks = Unit {0}
 Decided (sheet client from to) = Unit {0}
 
 look-longer : {left : ℕ} {bytes : List ℕ} {k : Next} (x : List ℕ) → Decided k → Look left bytes k → Look left (bytes ++ x) k
+look-longer {left = left} {bytes = bytes} x d (no_more _ _) = elim d [ ]
 look-longer {bytes = bytes} x d (left_over z h) = left_over z (λ e. h (omega (arith, e, length-append bytes x)))
+look-longer {left = left} {bytes = bytes} x d (line-waits _ _) = elim d [ ]
 look-longer {bytes = bytes} x d (line-breaks some other z) =
     let same = line-longer bytes x other in
     line-breaks some (λ e. other (sym (ap (λ v. v.refusal) same) ∙ e)) (λ e. z (sym (ap (λ v. v.refusal) same) ∙ e))
+look-longer {left = left} {bytes = bytes} x d (sheet-waits _ _ _) = elim d [ ]
 look-longer {bytes = bytes} x d (sheet-whole {from = from} some z client at to h) =
     let same = line-longer bytes x (λ e. omega (arith, e, z)) in
     sheet-whole some (ap (λ v. v.refusal) same ∙ z) (ap (λ v. v.client) same ∙ client) (ap (λ v. v.taken) same ∙ at)

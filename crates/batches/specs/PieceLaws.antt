@@ -19,7 +19,7 @@
 --   greedy                    a call that does not take the whole piece stopped for room
 use Prim.Native.Nat.{ℕ, suc, ◌+◌, ◌-◌, ◌≤◌, ◌<◌, zero-le}
 use Rattle.std.proofs.Common.{arith, ◌∙◌, ap₂, subst, inl, inr, le-leb, lt-ltb, leb-true, leb→le, ltb→lt, length-append, take_at, length-take-le}
-use Rattle.std.specs.Prelude.{◌≡◌, ◌⊎◌, Bool, true, false, ◌&&◌, cond, leb, ltb}
+use Rattle.std.specs.Prelude.{◌≡◌, ◌⊎◌, Bool, true, false, cond, leb, ltb}
 use Rattle.std.proofs.Math.Path.{refl, sym, ap}
 use mathlib.Core.List.{List, [], ◌++◌, append-nil, append_assoc}
 use Rattle.std.proofs.Math.ListN.{length, take, drop}

@@ -9,7 +9,7 @@
 --   right-few                         a right stream holds fewer bytes than a line and a sheet can have
 --   piece-refused                     a stream that is refused
 --   none-waits, size-waits            do the held bytes wait, with no sheet to come, and by the size of a sheet?
-use Rattle.std.specs.Prelude.{ℕ, zero, suc, ◌+◌, ◌-◌, ◌≤◌, ◌<◌, ◌≡◌, refl, ◌≢◌, Bool, true, false, ◌&&◌, cond, List, ◌++◌, leb, ltb, eqb, length, take, drop}
+use Rattle.std.specs.Prelude.{ℕ, zero, suc, ◌+◌, ◌-◌, ◌≤◌, ◌<◌, ◌≡◌, refl, ◌≢◌, Bool, true, false, cond, List, ◌++◌, leb, ltb, eqb, length, take, drop}
 use Rattle.std.proofs.Common.{arith, sym, ◌∙◌, ap, subst, eq-eqb, ltb-true, ltb-false, ltb→lt}
 use Rattle.lists.specs.Tests.{T-&&, true-T}
 use Rattle.frames.specs.declared.Batch.{Batch}

@@ -13,7 +13,7 @@ use Rattle.std.specs.Prelude.{ℕ, zero, suc, ◌+◌, ◌-◌, ◌≤◌, ◌<�
 use Rattle.std.proofs.Common.{zero-le, le_refl, arith, ap, subst, inl, inr, append-nil, le-leb, length-append, length-drop}
 use Rattle.std.proofs.Math.Decide.{dec_lt}
 use Rattle.rules.specs.Numbers.{decimal, line, lines}
-use Rattle.rules.specs.Batch.{most_bytes, Answer, accepted, answer_sheet, answer_bytes, broken, closing_by, closing, batch_output}
+use Rattle.rules.specs.Batch.{most_bytes, Answer, answer_sheet, answer_bytes, broken, closing_by, closing, batch_output}
 use Rattle.tokens.specs.WrittenNumbers.{is_number-decimal}
 use Rattle.answers.specs.Answers.{RightAnswer, right-accepted, right-refused, answer-right}
 use Rattle.frames.specs.declared.Batch.{Batch}

@@ -1,5 +1,7 @@
 // Batches: the answer to one sheet, a whole batch on one slice, and a batch that comes in pieces. Every `pub fn` of this file is an entry
 // point: no `requires`, and a contract that gives the result and every lent store by equations.
+#![tactic(auto)]
+
 ghost use Rattle.std.specs.Prelude.{◌≡◌};
 ghost use Rattle.answers.specs.Answers as Answers;
 ghost use Rattle.batches.specs.Feeds.{start_of};
