@@ -29,7 +29,7 @@ use Rattle.constant_rows.specs.Constants.{the_columns_of}
 use Rattle.back_substitution.specs.Listed.{is_free_of, free_columns}
 use Rattle.solutions.specs.SolutionAnswers.{Answer, refused_with, none_listed, listed, homogeneous, answer}
 use Rattle.constant_rows.specs.ListLengths.{largest_index, list_columns}
-use Rattle.solutions.specs.SolutionCalls.{Result, Work, Call, all_lengths, check_call, unlisted, result_of, work_after, after_check}
+use Rattle.solutions.specs.SolutionCalls.{Result, Work, Call, all_lengths, check_call, unlisted, result_of}
 use Rattle.solutions.specs.SolutionCalls.{solutions_call}
 use Rattle.solutions.specs.Course.{listed-course}
 use Rattle.constant_rows.specs.RowCounts.{columns-bound}

@@ -1,4 +1,6 @@
 // The answer about polynomial solutions as numbers of a lent store.
+#![tactic(auto)]
+
 ghost use Rattle.std.specs.Prelude.{◌≡◌, ◌≤◌, length};
 ghost use Rattle.stores.specs.Validity.{the_sizes_of};
 ghost use Rattle.solutions.specs.AnswerStores.{solutions_of, work_of};
