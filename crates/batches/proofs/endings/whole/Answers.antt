@@ -90,7 +90,7 @@ overflow_add-result c =
     let last = (goal.at.overflow_add-result c).After-ending-last in
     let fed = fed last in
     let few =
-        whole-fits (none fed) (input fed) (output fed) fed.feed-fed.result (after fed) fed.feed-fed.ensures.output_after (fits last)
+    whole-fits (none fed) (input fed) (output fed) fed.feed-fed.result (after fed) fed.feed-fed.ensures.output_after (fits last)
     last.ending-last.result (part last) last.ending-last.ensures c.if-last-ne0.false in
     omega (arith, few)
 

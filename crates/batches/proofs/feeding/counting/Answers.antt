@@ -61,7 +61,7 @@ overflow_add-result c =
     let line = (goal.at.overflow_add-result c).After-begin-begun in
     let args = (start line).args in
     let all =
-        count-sheets args.batch (bytes line) args.output.now line.begin-begun.result (seen line)
+    count-sheets args.batch (bytes line) args.output.now line.begin-begun.result (seen line)
     c.if-begun-ne0.false
     c.sheets-fed.result
     c.sheets-fed.new.output c.sheets-fed.ensures.output_after in

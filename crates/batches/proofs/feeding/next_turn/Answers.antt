@@ -51,7 +51,7 @@ pub returns-then-line-eq4 : goal.returns-then-line-eq4
 returns-then-line-eq4 c =
     let line = (goal.at.returns-then-line-eq4 c).After-line-line in
     let args = (start line).args in record {
-      output_after = ap (λ r. turn_of r args.output.now) 
+      output_after = ap (λ r. turn_of r args.output.now)
           (c.stopped-then-line-eq4.ensures ∙ ap stopped_of c.nothing-then-line-eq4.ensures)
           ∙ turn-waits args.batch (bytes line) args.output.now
           (look_is (line-waits line.if-batch-eq0.false (rw (← seen line) c.if-line-eq4.true)));
@@ -79,7 +79,7 @@ pub returns-then-bytes-from : goal.returns-then-bytes-from
 returns-then-bytes-from c =
     let line = (goal.at.returns-then-bytes-from c).After-line-line in
     let args = (start line).args in record {
-      output_after = ap (λ r. turn_of r args.output.now) 
+      output_after = ap (λ r. turn_of r args.output.now)
           (c.stopped-then-bytes-from.ensures ∙ ap stopped_of c.nothing-then-bytes-from.ensures)
           ∙ turn-waits args.batch (bytes line) args.output.now
           (look_is
