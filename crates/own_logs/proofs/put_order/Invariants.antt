@@ -10,7 +10,8 @@ use Rattle.rules.specs.Limits.{column_count}
 use Rattle.own_logs.proofs.put_order.Given as goal
 
 abbrev pub invariant-loop-j : goal.invariant-loop-j
-invariant-loop-j l = (l.j ≤ column_count) × ((length l.log ≡ length l.initial.log) × (l.log ≡ paste l.initial.log l.at (map pos l.order) l.j))
+invariant-loop-j l = (l.j ≤ column_count)
+    × ((length l.log ≡ length l.initial.log) × (l.log ≡ paste l.initial.log l.at (map pos l.order) l.j))
 
 abbrev pub decreases-loop-j : goal.decreases-loop-j
 decreases-loop-j l = column_count - l.j

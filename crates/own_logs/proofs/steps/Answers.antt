@@ -12,7 +12,8 @@ use Rattle.reduction.specs.Unused.{none-unused}
 use Rattle.log_steps.specs.Logs.{own_need}
 use Rattle.own_logs.specs.LoggedSteps.{noting-starts, noting-goes, noting-stops}
 use Rattle.own_logs.proofs.steps.Goals as goal
-use Rattle.own_logs.proofs.steps.Goals.{At-loop-left, Left-loop-left, Then-p, then-loop-left-test+then-refusal-eq0+else-p, then-loop-left-test+else-refusal-eq0, else-loop-left-test}
+use Rattle.own_logs.proofs.steps.Goals.{At-loop-left, Left-loop-left, Then-p, then-loop-left-test+then-refusal-eq0+else-p}
+use Rattle.own_logs.proofs.steps.Goals.{then-loop-left-test+else-refusal-eq0, else-loop-left-test}
 
 pub enough-left-requires : goal.enough-left-requires
 enough-left-requires c = c.requires.0

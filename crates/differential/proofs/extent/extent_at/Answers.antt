@@ -17,7 +17,8 @@ use Rattle.differential.specs.Grammar.{read_extent}
 use Rattle.differential.specs.Read.{extent_of}
 use Rattle.differential.specs.Extents.{count_then, degree_then, order_then, extent-is}
 use Rattle.differential.proofs.extent.extent_at.Goals as goal
-use Rattle.differential.proofs.extent.extent_at.Goals.{After-struct_told-1, After-struct_told-2-1, After-struct_told-3-1, After-struct_told-4-1, Else-j-ne0, Else-k-ne0, Else-m-ne0, Else-n-ne0}
+use Rattle.differential.proofs.extent.extent_at.Goals.{After-struct_told-1, After-struct_told-2-1, After-struct_told-3-1}
+use Rattle.differential.proofs.extent.extent_at.Goals.{After-struct_told-4-1, Else-j-ne0, Else-k-ne0, Else-m-ne0, Else-n-ne0}
 
 pub unknowns_at-m-requires : goal.unknowns_at-m-requires
 unknowns_at-m-requires c = zero-le

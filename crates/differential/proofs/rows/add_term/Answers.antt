@@ -20,7 +20,8 @@ use Rattle.differential.proofs.rows.add_term.Goals as goal
 use Rattle.differential.proofs.rows.add_term.Goals.{After-place-from, Start}
 
 pub place-from-requires : goal.place-from-requires
-place-from-requires c = (c.requires.order_le_most_derivative.0, (c.requires.order_le_most_derivative.1.0, c.requires.order_le_most_derivative.1.1.0))
+place-from-requires c =
+    (c.requires.order_le_most_derivative.0, (c.requires.order_le_most_derivative.1.0, c.requires.order_le_most_derivative.1.1.0))
 
 -- The place is in the row.
 module _ (c : After-place-from) where
@@ -37,7 +38,8 @@ module _ (c : After-place-from) where
   unfolding term_of
   room =
       subst (λ k. k + coefficient_count ≤ length row) (sym c.place-from.ensures)
-      (le_trans (place-fits _ _ s.requires.order_le_most_derivative.0 s.requires.order_le_most_derivative.1.0 s.requires.order_le_most_derivative.1.1.0) (le_of_eq (sym s.requires.row_len.0)))
+      (le_trans (place-fits _ _ s.requires.order_le_most_derivative.0 s.requires.order_le_most_derivative.1.0
+          s.requires.order_le_most_derivative.1.1.0) (le_of_eq (sym s.requires.row_len.0)))
 
   part-long : length (mid_of from (from + coefficient_count - from) row) ≡ coefficient_count
   part-long = lent-long row from coefficient_count room
@@ -62,7 +64,8 @@ add_polynomial-requires c =
     let p = (goal.at.add_polynomial-requires c).After-place-from in record {
       p_len = (
         part-long p,
-        all_take (λ a. nat_abs a ≤ bound) (from p + coefficient_count - from p) (drop (from p) (row p)) (all_drop (λ a. nat_abs a ≤ bound) (from p) (row p) c.requires.row_len.1),
+        all_take (λ a. nat_abs a ≤ bound) (from p + coefficient_count - from p) (drop (from p) (row p))
+            (all_drop (λ a. nat_abs a ≤ bound) (from p) (row p) c.requires.row_len.1),
       );
       small_place = (c.requires.order_le_most_derivative.1.1.0, c.requires.order_le_most_derivative.1.1.1);
     }

@@ -66,7 +66,8 @@ pub overflow_mul-used : goal.overflow_mul-used
 overflow_mul-used c = omega (arith, few (goal.at.overflow_mul-used c).Else-h-ne0)
 
 pub slice_bounds-equations_at-end : goal.slice_bounds-equations_at-end
-slice_bounds-equations_at-end c = omega (arith, few (goal.at.slice_bounds-equations_at-end c).Else-h-ne0, ap length c.requires, length-zeros largest_rows)
+slice_bounds-equations_at-end c =
+    omega (arith, few (goal.at.slice_bounds-equations_at-end c).Else-h-ne0, ap length c.requires, length-zeros largest_rows)
 
 pub slice_bounds-equations_at-end-2 : goal.slice_bounds-equations_at-end-2
 slice_bounds-equations_at-end-2 c = sym (ap length (lent (goal.at.slice_bounds-equations_at-end-2 c).Else-h-ne0) ∙ length-zeros _)
@@ -75,7 +76,8 @@ pub equations_at-e-requires : goal.equations_at-e-requires
 equations_at-e-requires c =
     record {
       at_in_bounds = (c.extent_at-h.ensures.within, (small (goal.at.equations_at-e-requires c).Else-h-ne0).0);
-      equations_le_most_equations = (few (goal.at.equations_at-e-requires c).Else-h-ne0, lent (goal.at.equations_at-e-requires c).Else-h-ne0);
+      equations_le_most_equations =
+          (few (goal.at.equations_at-e-requires c).Else-h-ne0, lent (goal.at.equations_at-e-requires c).Else-h-ne0);
     }
 
 -- The rows, as they were read into the part that was lent.
@@ -120,7 +122,8 @@ pub returns-then-e-bytes : goal.returns-then-e-bytes
 unfolding extent_of
 returns-then-e-bytes c =
     sheet-refuses (λ e. omega arith)
-    (end-fault _ _ _ (extent-read (goal.at.returns-then-e-bytes c).Else-h-ne0) _ _ (rows-read (goal.at.returns-then-e-bytes c).After-equations_at-e c.if-e-ne0.false) c.if-e-bytes.true)
+    (end-fault _ _ _ (extent-read (goal.at.returns-then-e-bytes c).Else-h-ne0) _ _
+        (rows-read (goal.at.returns-then-e-bytes c).After-equations_at-e c.if-e-ne0.false) c.if-e-bytes.true)
     c.no_sheet-then-e-bytes.ensures
 
 pub returns : goal.returns
@@ -129,7 +132,8 @@ returns c =
     record {
       read =
           λ _.
-          end-got _ _ _ (extent-read (goal.at.returns c).Else-h-ne0) _ _ (rows-read (goal.at.returns c).After-equations_at-e c.if-e-ne0.false) (length-rows_of _ _) c.if-e-bytes.false;
+          end-got _ _ _ (extent-read (goal.at.returns c).Else-h-ne0) _ _
+              (rows-read (goal.at.returns c).After-equations_at-e c.if-e-ne0.false) (length-rows_of _ _) c.if-e-bytes.false;
       small = λ _. small (goal.at.returns c).Else-h-ne0;
       refused = λ h. absurd (h refl);
     }

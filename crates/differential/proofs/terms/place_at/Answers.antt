@@ -16,7 +16,9 @@ use Rattle.differential.specs.Grammar.{judge_ordered_of, first_power_of, first_c
 use Rattle.differential.specs.Read.{extent_of, term_of, read_place}
 use Rattle.differential.specs.Rows.{ordered-zero, power-few, column-few}
 use Rattle.differential.proofs.terms.place_at.Goals as goal
-use Rattle.differential.proofs.terms.place_at.Goals.{After-first_column-leftmost, After-first_power-lowest, After-ordered_at-c, After-ordered_at-j, After-struct_told-1, After-struct_told-2-1, After-struct_told-3-1, Start}
+use Rattle.differential.proofs.terms.place_at.Goals.{After-first_column-leftmost, After-first_power-lowest, After-ordered_at-c}
+use Rattle.differential.proofs.terms.place_at.Goals.{After-ordered_at-j, After-struct_told-1, After-struct_told-2-1, After-struct_told-3-1}
+use Rattle.differential.proofs.terms.place_at.Goals.{Start}
 
 pub ordered_at-k-requires : goal.ordered_at-k-requires
 unfolding extent_of term_of
@@ -93,7 +95,8 @@ module _ (c : After-ordered_at-j) where
   j = c.ordered_at-j.result.value
 
   j-answer : Answers (s (d e)).args.bytes.now c.ordered_at-j.result.refusal j c.ordered_at-j.result.at
-      (field (judge_ordered_of 0 (s (d e)).args.x.degree (first_power_of (term_of (s (d e)).args.before) (nat_abs (k (d e)))) (s (d e)).args.x.degree)
+      (field (judge_ordered_of 0 (s (d e)).args.x.degree (first_power_of (term_of (s (d e)).args.before) (nat_abs (k (d e))))
+          (s (d e)).args.x.degree)
       (always 32) (drop c.ordered_at-k.result.at (s (d e)).args.bytes.now))
   j-answer = rw (lowest-is e) at c.ordered_at-j.ensures
 
@@ -101,7 +104,8 @@ pub returns-then-j-ne0 : goal.returns-then-j-ne0
 unfolding read_place extent_of term_of
 returns-then-j-ne0 c =
     refuses c.if-j-ne0.true
-    (then-got _ (k-read (goal.at.returns-then-j-ne0 c).After-struct_told-1) ∙ then-fault _ (answer-fault c.if-j-ne0.true (j-answer (goal.at.returns-then-j-ne0 c).After-ordered_at-j)))
+    (then-got _ (k-read (goal.at.returns-then-j-ne0 c).After-struct_told-1)
+        ∙ then-fault _ (answer-fault c.if-j-ne0.true (j-answer (goal.at.returns-then-j-ne0 c).After-ordered_at-j)))
     c.no_term-then-j-ne0.ensures
 
 module _ (c : After-struct_told-2-1) where
@@ -111,7 +115,8 @@ module _ (c : After-struct_told-2-1) where
   j-fits : SFits w64 (j f)
   j-fits = sfits_of c.struct_told-2-1.given.1.0.1
 
-  j-read : field (judge_ordered_of 0 c.args.x.degree (first_power_of (term_of c.args.before) (nat_abs (k (goal.at.After-struct_told-2-1 c).After-struct_told-1)))
+  j-read : field (judge_ordered_of 0 c.args.x.degree
+      (first_power_of (term_of c.args.before) (nat_abs (k (goal.at.After-struct_told-2-1 c).After-struct_told-1)))
       c.args.x.degree) (always 32)
       (drop c.ordered_at-k.result.at c.args.bytes.now)
       ≡ got (j f) (drop c.ordered_at-j.result.at c.args.bytes.now)
@@ -130,8 +135,10 @@ module _ (c : After-first_column-leftmost) where
   g = (goal.at.After-first_column-leftmost c).After-struct_told-2-1
 
   leftmost-is : c.first_column-leftmost.result
-      ≡ first_column_of (term_of c.args.before) (nat_abs (k (goal.at.After-first_column-leftmost c).After-struct_told-1)) (nat_abs (j (f g)))
-  leftmost-is = simp (to_z-of_z {w = w64} (k-fits (goal.at.After-first_column-leftmost c).After-struct_told-1), to_z-of_z {w = w64} (j-fits g)) at c.first_column-leftmost.ensures
+      ≡ first_column_of (term_of c.args.before) (nat_abs (k (goal.at.After-first_column-leftmost c).After-struct_told-1))
+          (nat_abs (j (f g)))
+  leftmost-is = simp (to_z-of_z {w = w64} (k-fits (goal.at.After-first_column-leftmost c).After-struct_told-1),
+      to_z-of_z {w = w64} (j-fits g)) at c.first_column-leftmost.ensures
 
 pub ordered_at-c-requires : goal.ordered_at-c-requires
 unfolding extent_of
@@ -141,7 +148,8 @@ ordered_at-c-requires c = (
     low-few = omega arith;
     high-few = omega (arith, c.requires.1.unknowns-few);
     first-few =
-        rw (leftmost-is c) (column-few (term_of c.args.before) (nat_abs (k (goal.at.ordered_at-c-requires c).After-struct_told-1)) (nat_abs (j (f (g c)))) c.requires.2);
+        rw (leftmost-is c) (column-few (term_of c.args.before) (nat_abs (k (goal.at.ordered_at-c-requires c).After-struct_told-1))
+            (nat_abs (j (f (g c)))) c.requires.2);
     last-few = omega (arith, c.requires.1.unknowns-few);
   },
 )
@@ -159,7 +167,8 @@ module _ (c : After-ordered_at-c) where
 
   column-answer : Answers c.args.bytes.now c.ordered_at-c.result.refusal column c.ordered_at-c.result.at
       (field (judge_ordered_of 1 c.args.x.unknowns
-      (first_column_of (term_of c.args.before) (nat_abs (k (goal.at.After-ordered_at-c c).After-struct_told-1)) (nat_abs (j (goal.at.After-ordered_at-c c).After-ordered_at-j)))
+      (first_column_of (term_of c.args.before) (nat_abs (k (goal.at.After-ordered_at-c c).After-struct_told-1))
+          (nat_abs (j (goal.at.After-ordered_at-c c).After-ordered_at-j)))
       c.args.x.unknowns) (always 32)
       (drop c.ordered_at-j.result.at c.args.bytes.now))
   column-answer = rw (leftmost-is h) at c.ordered_at-c.ensures
@@ -168,7 +177,8 @@ pub returns-then-c-ne0 : goal.returns-then-c-ne0
 unfolding read_place extent_of term_of
 returns-then-c-ne0 c =
     refuses c.if-c-ne0.true
-    (then-got _ (k-read (goal.at.returns-then-c-ne0 c).After-struct_told-1) ∙ then-got _ (j-read (goal.at.returns-then-c-ne0 c).After-struct_told-2-1)
+    (then-got _ (k-read (goal.at.returns-then-c-ne0 c).After-struct_told-1)
+        ∙ then-got _ (j-read (goal.at.returns-then-c-ne0 c).After-struct_told-2-1)
     ∙ then-fault _ (answer-fault c.if-c-ne0.true (column-answer (goal.at.returns-then-c-ne0 c).After-ordered_at-c)))
     c.no_term-then-c-ne0.ensures
 
@@ -177,7 +187,8 @@ module _ (c : After-struct_told-3-1) where
   column_fits = sfits_of c.struct_told-3-1.given.1.0.1
 
   column-read : field (judge_ordered_of 1 c.args.x.unknowns
-      (first_column_of (term_of c.args.before) (nat_abs (k (goal.at.After-struct_told-3-1 c).After-struct_told-1)) (nat_abs (j (goal.at.After-struct_told-3-1 c).After-ordered_at-j)))
+      (first_column_of (term_of c.args.before) (nat_abs (k (goal.at.After-struct_told-3-1 c).After-struct_told-1))
+          (nat_abs (j (goal.at.After-struct_told-3-1 c).After-ordered_at-j)))
       c.args.x.unknowns) (always 32)
       (drop c.ordered_at-j.result.at c.args.bytes.now)
       ≡ got (column (goal.at.After-struct_told-3-1 c).After-ordered_at-c) (drop c.ordered_at-c.result.at c.args.bytes.now)
@@ -191,6 +202,8 @@ overflow_cast-result c =
 pub returns : goal.returns
 unfolding read_place extent_of term_of
 returns c =
-    gives (simp (to_z-of_z {w = w64} (k-fits (goal.at.returns c).After-struct_told-1), to_z-of_z {w = w64} (j-fits (goal.at.returns c).After-struct_told-2-1), to_z-of_z {w = w64} (column_fits c)))
-    (then-got _ (k-read (goal.at.returns c).After-struct_told-1) ∙ then-got _ (j-read (goal.at.returns c).After-struct_told-2-1) ∙ then-got _ (column-read c))
+    gives (simp (to_z-of_z {w = w64} (k-fits (goal.at.returns c).After-struct_told-1),
+        to_z-of_z {w = w64} (j-fits (goal.at.returns c).After-struct_told-2-1), to_z-of_z {w = w64} (column_fits c)))
+    (then-got _ (k-read (goal.at.returns c).After-struct_told-1) ∙ then-got _ (j-read (goal.at.returns c).After-struct_told-2-1)
+        ∙ then-got _ (column-read c))
     c.ordered_at-c.ensures.within

@@ -56,7 +56,8 @@ pub width_of-width-requires : goal.width_of-width-requires
 width_of-width-requires c = let e = c in let s = start e in begun-room (begun s) (i s) (inside e)
 
 pub width_of-other-requires : goal.width_of-other-requires
-width_of-other-requires c = let e = (goal.at.width_of-other-requires c).Else-not-two_rows in let s = start e in begun-room (begun s) (j s) (other e)
+width_of-other-requires c = let e = (goal.at.width_of-other-requires c).Else-not-two_rows in let s = start e in
+    begun-room (begun s) (j s) (other e)
 
 pub exchange-requires : goal.exchange-requires
 exchange-requires c =

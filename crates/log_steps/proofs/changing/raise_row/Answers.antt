@@ -104,7 +104,8 @@ load-row-requires c =
     (begun-room (begun (start e)) (i (start e)) (inside e), c.width_of-width.ensures)
 
 pub shifted-requires : goal.shifted-requires
-shifted-requires c = let l = (goal.at.shifted-requires c).After-load-row in ((loaded l).full, bounded l, width-of l.load-row.result _ _ l.load-row.ensures)
+shifted-requires c = let l = (goal.at.shifted-requires c).After-load-row in
+    ((loaded l).full, bounded l, width-of l.load-row.result _ _ l.load-row.ensures)
 
 pub put_limited-requires : goal.put_limited-requires
 put_limited-requires c =
@@ -122,7 +123,8 @@ returns c =
     let s = base l in
     let e = passed l in
     λ D relations ready.
-    stepped_same (c.put_limited.ensures.rows_after ∙ ap₂ (saved (rows s) (i s)) (refusal_is d) (ap numbers_held (row_is d) ∙ numbers-worked (new l)))
+    stepped_same (c.put_limited.ensures.rows_after
+        ∙ ap₂ (saved (rows s) (i s)) (refusal_is d) (ap numbers_held (row_is d) ∙ numbers-worked (new l)))
     (c.put_limited.ensures.value ∙ ap (λ n. answer_of n (shifted_progress (p s))) (refusal_is d)) refl
     (raise-stepped D ready (begun s).unsettled (i s) (inside e)
     (raise-allowed D ready (begun s).unsettled (i s) (inside e) ∙ sym l.block_zero.ensures

@@ -1,5 +1,5 @@
--- `log_steps::combining::divide_exactly` meets its contract. The loop's invariant: d divides the first k numbers, they are divided by it, and
--- the others are as they were.
+-- `log_steps::combining::divide_exactly` meets its contract. The loop's invariant: d divides the first k numbers, they are divided by it,
+-- and the others are as they were.
 -- Assumes nothing.
 use mathlib.Core.Path.{◌≡◌, refl, sym, ◌∙◌, ap}
 use mathlib.Core.Bool.{true≢false}
@@ -50,9 +50,11 @@ module _ (c : After-a-1) where
 
 -- its remainder
 module _ (c : After-remainder) where
-  left : rem_z (coeff (l (goal.at.After-remainder c).After-a-1) (k (goal.at.After-remainder c).After-a-1)) (d (goal.at.After-remainder c).After-a-1) ≡ c.remainder.result
+  left : rem_z (coeff (l (goal.at.After-remainder c).After-a-1) (k (goal.at.After-remainder c).After-a-1))
+      (d (goal.at.After-remainder c).After-a-1) ≡ c.remainder.result
   unfolding coeff
-  left = ap (λ a. rem_z a (d (goal.at.After-remainder c).After-a-1)) (sym (back (goal.at.After-remainder c).After-a-1)) ∙ sym c.remainder.ensures
+  left = ap (λ a. rem_z a (d (goal.at.After-remainder c).After-a-1)) (sym (back (goal.at.After-remainder c).After-a-1))
+      ∙ sym c.remainder.ensures
 
 pub returns-then-d-eq1 : goal.returns-then-d-eq1
 returns-then-d-eq1 c =
@@ -102,5 +104,6 @@ returns c =
     let d = to_z w64 (of_z w64 c.args.d) in record {
       value = sym (ap (λ a. divides_all (nat_abs a) l) (sym (to_z-of_z {w = w64} c.ranges.d))
           ∙ sum-divided d l loop.k loop.invariant.2 (λ j m. coeff-past-length l j (omega arith)));
-      numbers_after = λ _. overwritten-all (rw (to_z-of_z {w = w64} c.ranges.d) at loop.invariant.0) (length-divide_by (nat_abs c.args.d) l) (omega arith);
+      numbers_after = λ _. overwritten-all (rw (to_z-of_z {w = w64} c.ranges.d) at loop.invariant.0)
+          (length-divide_by (nat_abs c.args.d) l) (omega arith);
     }

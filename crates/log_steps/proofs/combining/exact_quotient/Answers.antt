@@ -115,7 +115,8 @@ module _ (q : Else-not-divide_exactly-2) where
 
   divided-right : (divides_all (n start) (right start) ≡ true)
       × (q.divide_exactly-2.new.numbers ≡ divide_by (n start) (right start))
-  divided-right = exact-right start (q.divide_exactly-2.ensures.value, q.divide_exactly-2.ensures.numbers_after) (q.if-not-divide_exactly-2.false)
+  divided-right = exact-right start (q.divide_exactly-2.ensures.value, q.divide_exactly-2.ensures.numbers_after)
+      (q.if-not-divide_exactly-2.false)
 
 pub returns-then-not-divide_exactly : goal.returns-then-not-divide_exactly
 unfolding refusal_of
@@ -132,7 +133,8 @@ returns-then-not-divide_exactly-2 c =
     let second = c.divide_exactly-2.ensures.value ∙ same-right s in
     let e = inexact s (ap (λ t. divides_all (n s) (left s) && t) (sym second ∙ c.if-not-divide_exactly-2.true)
     ∙ and-false (divides_all (n s) (left s))) in
-    (c.broken-then-not-divide_exactly-2.ensures.0 ∙ sym (ap refusal_of e), c.broken-then-not-divide_exactly-2.ensures.1 ∙ sym (ap worked_row e))
+    (c.broken-then-not-divide_exactly-2.ensures.0 ∙ sym (ap refusal_of e), c.broken-then-not-divide_exactly-2.ensures.1
+        ∙ sym (ap worked_row e))
 
 pub returns-then-not-all_small : goal.returns-then-not-all_small
 unfolding refusal_of

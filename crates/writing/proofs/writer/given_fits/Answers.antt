@@ -32,7 +32,8 @@ plainly_fits-requires c =
       count_le_most_relations = (
         search rules,
         search rules,
-        rw behind (parts-behind (λ part. T (every small part)) relation_length args.first args.count args.relations.now start.requires.count_le_most_relations.2),
+        rw behind (parts-behind (λ part. T (every small part)) relation_length args.first args.count args.relations.now
+            start.requires.count_le_most_relations.2),
       );
     }
 
@@ -46,7 +47,8 @@ returns c t l h e =
       arith,
       c.plainly_fits.ensures t l h,
       ap (lines_length l args.equations (args.count - args.first) args.rows.now) behind,
-      lines-length-given l args.equations args.first args.count args.rows.now store args.given.now start.requires.count_le_most_relations.3 e,
+      lines-length-given l args.equations args.first args.count args.rows.now store args.given.now
+          start.requires.count_le_most_relations.3 e,
       c.if-room-taken.false,
       start.requires.count_le_most_relations.3,
     )

@@ -25,7 +25,8 @@ module _ (c : After-all_zero) where
 
 pub returns-then-all_zero : goal.returns-then-all_zero
 unfolding most_in_term_of
-returns-then-all_zero c = sym (ap (λ t. cond t short_term long_term) (tested (goal.at.returns-then-all_zero c).After-all_zero ∙ c.if-all_zero.true))
+returns-then-all_zero c =
+    sym (ap (λ t. cond t short_term long_term) (tested (goal.at.returns-then-all_zero c).After-all_zero ∙ c.if-all_zero.true))
 
 pub returns : goal.returns
 unfolding most_in_term_of

@@ -22,7 +22,9 @@ use Rattle.writing.specs.LineLengths.{lines_length}
 use Rattle.writing.specs.SheetBytes.{sizes_bytes, equation_bytes, order_bytes}
 use Rattle.writing.specs.Writer.{UnusedParts, sides_given, sheet-bytes}
 use Rattle.writing.proofs.writer.put_given_sheet.Goals as goal
-use Rattle.writing.proofs.writer.put_given_sheet.Goals.{After-put_count-after_count, After-put_count-after_number, After-put_equations-after_rows, After-put_given-after_relations, After-put_order-after_order, After-put_sizes-after_sizes, After-span-blocks, Start}
+use Rattle.writing.proofs.writer.put_given_sheet.Goals.{After-put_count-after_count, After-put_count-after_number}
+use Rattle.writing.proofs.writer.put_given_sheet.Goals.{After-put_equations-after_rows, After-put_given-after_relations}
+use Rattle.writing.proofs.writer.put_given_sheet.Goals.{After-put_order-after_order, After-put_sizes-after_sizes, After-span-blocks, Start}
 
 -- l, t and the number of blocks in use, as the calls read them
 module _ (c : After-span-blocks) where
@@ -73,7 +75,8 @@ module _ (c : After-put_count-after_count) where
   place =
       let written =
       put_then after-sizes.put_sizes-after_sizes.ensures
-      (put_then after-number.put_count-after_number.ensures (put_then after-rows.put_equations-after_rows.ensures c.put_count-after_count.ensures)) in
+      (put_then after-number.put_count-after_number.ensures
+          (put_then after-rows.put_equations-after_rows.ensures c.put_count-after_count.ensures)) in
       omega (arith, written.passed, written.few, few-rows)
 
   text : length begun.args.given.now < 2 ^ 63
@@ -175,7 +178,8 @@ pub put_order-after_order-requires : goal.put_order-after_order-requires
 put_order-after_order-requires c =
     let after-count = (goal.at.put_order-after_order-requires c).After-put_count-after_count in
     let ready = (begun after-count).requires.checked in
-    (ready.1, omega (arith, c.put_given-after_relations.ensures.passed, c.put_given-after_relations.ensures.few, place after-count, ready.0.few, text after-count))
+    (ready.1, omega (arith, c.put_given-after_relations.ensures.passed, c.put_given-after_relations.ensures.few, place after-count,
+        ready.0.few, text after-count))
 
 pub put_fifth-requires : goal.put_fifth-requires
 unfolding equations the_sizes_of

@@ -33,7 +33,8 @@ returns-then-not-sizes_right c =
 
 pub returns-then-not-order_right : goal.returns-then-not-order_right
 unfolding the_sizes_of
-returns-then-not-order_right c = by_order (goal.at.returns-then-not-order_right c).Start false (sym c.order_right.ensures ∙ c.if-not-order_right.true)
+returns-then-not-order_right c =
+    by_order (goal.at.returns-then-not-order_right c).Start false (sym c.order_right.ensures ∙ c.if-not-order_right.true)
 
 pub returns : goal.returns
 unfolding the_sizes_of

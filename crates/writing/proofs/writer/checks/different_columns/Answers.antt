@@ -59,7 +59,8 @@ pub loop-i-init : goal.loop-i-init
 loop-i-init c = (omega arith, refl)
 
 pub returns-then-c-lt1 : goal.returns-then-c-lt1
-returns-then-c-lt1 c = rw (left (goal.at.returns-then-c-lt1 c).In-loop-i, lt-leb 1 (x (goal.at.returns-then-c-lt1 c).In-loop-i) c.if-c-lt1.true)
+returns-then-c-lt1 c =
+    rw (left (goal.at.returns-then-c-lt1 c).In-loop-i, lt-leb 1 (x (goal.at.returns-then-c-lt1 c).In-loop-i) c.if-c-lt1.true)
 
 pub returns-then-m-c : goal.returns-then-m-c
 returns-then-m-c c =

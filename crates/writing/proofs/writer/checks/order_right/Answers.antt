@@ -57,4 +57,5 @@ pub returns-else-different_columns : goal.returns-else-different_columns
 unfolding order_right_of
 returns-else-different_columns c =
     let given = (goal.at.returns-else-different_columns c).After-order_length-n in
-    rw (ap (different_columns_of _) (columns given) ∙ sym c.different_columns.ensures ∙ c.if-different_columns.false) c.if-different_columns.false
+    rw (ap (different_columns_of _) (columns given) ∙ sym c.different_columns.ensures ∙ c.if-different_columns.false)
+        c.if-different_columns.false
