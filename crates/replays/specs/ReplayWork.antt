@@ -15,9 +15,8 @@ use Rattle.std.proofs.Common.{sym, ◌∙◌}
 use Rattle.std.proofs.Math.Path.{ap, ap₂}
 use Rattle.std.proofs.Math.Seq.{paste}
 use Rattle.rules.specs.Limits.{relation_length}
-use Rattle.rules.specs.Elimination.{State, Outcome, going, done, refused, and_then}
+use Rattle.rules.specs.Elimination.{State, Outcome, going, refused, and_then}
 use Rattle.rules.specs.Stores.{row_need}
-use Rattle.rules.specs.Calls.{refusal}
 use Rattle.sides.specs.StoreStates.{kept_then}
 use Rattle.reduction.specs.declared.step.Progress.{Progress}
 use Rattle.reduction.specs.declared.step.Outcome as Answer

@@ -1,5 +1,7 @@
 // The replay of a log over checked stores: its steps, one after the other, and the column order at the end (SCOPE 13.3). `replay_on` asks for
 // stores that are ready, and leaves zeros where it is refused.
+#![tactic(auto)]
+
 ghost use Rattle.std.specs.Prelude.{◌≡◌, List, ℕ, ◌+◌, ◌*◌, ◌^◌, ◌≤◌, ◌<◌, ℤ, length};
 ghost use Rattle.rules.specs.Limits.{column_count, most_span};
 ghost use Rattle.reduction.specs.Progress.{Ready, state_of};
