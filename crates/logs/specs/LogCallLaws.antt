@@ -5,7 +5,7 @@
 --   check-right        the checks of a replay pass exactly if those of a run do, and the log has its length
 --   accepted-call      a replay that is accepted is one of the system in the stores, so that it has all of `Accepted`
 --   own-call           our own run with its log, accepted: the replay of that log on the same stores gives the same result and stores
-use Prim.Native.Nat.{ℕ, zero, suc, ◌+◌, ◌*◌, ◌-◌, ◌≤◌, ◌<◌}
+use Prim.Native.Nat.{ℕ, zero, suc, ◌*◌, ◌-◌, ◌≤◌, ◌<◌}
 use Rattle.std.specs.Prelude.{◌≡◌, ◌≢◌, ◌↔◌, ◌⊎◌, true, false, ◌&&◌, cond, drop, ℤ}
 use Rattle.std.proofs.Math.Path.{refl, ap}
 use Rattle.std.proofs.Common.{sym, ◌∙◌, ap₂, inl, inr, ⊎_elim, suc-ne-zero, arith, leb→le, le→leb}

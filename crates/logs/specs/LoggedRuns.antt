@@ -6,7 +6,7 @@
 -- Main statements
 --   check-two, check-short, check-long   the checks, from those of the system
 --   logged-refused, logged-done, logged-stopped   the whole call
-use Prim.Native.Nat.{ℕ, zero, suc, ◌-◌, ◌≤◌, ◌<◌}
+use Prim.Native.Nat.{ℕ, zero, suc, ◌≤◌, ◌<◌}
 use Rattle.std.proofs.Common.{le_refl, arith, sym, ◌∙◌, le-leb, le→leb}
 use Rattle.std.specs.Prelude.{◌≡◌, ◌≢◌, Bool, true, false, ◌&&◌, List, ℤ, length}
 use Rattle.std.proofs.Math.Path.{refl, ap}

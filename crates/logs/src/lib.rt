@@ -1,5 +1,7 @@
 // Elimination logs: the replay of a log from elsewhere, and our own leading run with its log. `replay` and `run_logged` are the public
 // entry points: no `requires`, and contracts that give the result and every lent store by equations.
+#![tactic(auto)]
+
 ghost use Rattle.std.specs.Prelude.{◌≡◌};
 ghost use Rattle.stores.specs.Validity.{the_sizes_of};
 ghost use Rattle.runs.specs.CallLaws as RunLaws;
