@@ -64,17 +64,19 @@ unfolding extent_of
 returns-then-not-lengths_right c =
     call-unread _ _ _ _ c.refused-then-not-lengths_right.ensures
     ∙ sym (read_short _ (extent (goal.at.returns-then-not-lengths_right c).After-sheet_at-d)
-        (numbers (goal.at.returns-then-not-lengths_right c).After-sheet_at-d)
-            ((sheet (goal.at.returns-then-not-lengths_right c).After-sheet_at-d).read c.if-d-ne0.false) _ _
+    (numbers (goal.at.returns-then-not-lengths_right c).After-sheet_at-d)
+    ((sheet (goal.at.returns-then-not-lengths_right c).After-sheet_at-d).read c.if-d-ne0.false) _ _
     (sym c.lengths_right.ensures ∙ c.if-not-lengths_right.true))
 
 pub fill_rows-requires : goal.fill_rows-requires
 unfolding row_need
 fill_rows-requires c =
     let enough = (lengths_right-iff _ _ _).0
-    (true-T _ (sym c.lengths_right.ensures ∙ c.if-not-lengths_right.false)) in
-    (few (goal.at.fill_rows-requires c).Else-d-ne0, enough.0,
-        omega (arith, few (goal.at.fill_rows-requires c).Else-d-ne0, long (goal.at.fill_rows-requires c).After-sheet_at-d))
+    (true-T _ (sym c.lengths_right.ensures ∙ c.if-not-lengths_right.false)) in (
+      few (goal.at.fill_rows-requires c).Else-d-ne0,
+      enough.0,
+      omega (arith, few (goal.at.fill_rows-requires c).Else-d-ne0, long (goal.at.fill_rows-requires c).After-sheet_at-d),
+    )
 
 pub fill_relations-requires : goal.fill_relations-requires
 fill_relations-requires c =
@@ -94,5 +96,5 @@ returns c =
       relation_store = c.fill_relations.ensures i;
     })
     ∙ sym (read-fills _ (extent (goal.at.returns c).After-sheet_at-d) (numbers (goal.at.returns c).After-sheet_at-d)
-        ((sheet (goal.at.returns c).After-sheet_at-d).read c.if-d-ne0.false) _ _
+    ((sheet (goal.at.returns c).After-sheet_at-d).read c.if-d-ne0.false) _ _
     (sym c.lengths_right.ensures ∙ c.if-not-lengths_right.false))

@@ -36,7 +36,7 @@ pub write_checked-requires : goal.write_checked-requires
 unfolding zeros
 write_checked-requires c =
     ap (λ z. check_write_of z 0 no_order (numbers (goal.at.write_checked-requires c).After-sheet_at-d) (zeros relation_need))
-        c.sizes_for-sizes.ensures
+    c.sizes_for-sizes.ensures
     ∙ write-checks _ _ _ ((sheet (goal.at.write_checked-requires c).After-sheet_at-d).read c.if-d-ne0.false)
 
 pub returns : goal.returns

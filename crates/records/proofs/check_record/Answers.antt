@@ -128,7 +128,7 @@ equations_fit-answer-requires c =
     simp (to_z-of_z {w = w64} (st d).ranges.first) record {
       t = ((right d).system.sizes, (right d).first-near, (right d).few);
       equations_in_bounds =
-        ((lengths d).0, rows-small (z (a d)) (rows_of (st d).args.sizes.equations (st d).args.rows.now) (numbers d).rows_right);
+          ((lengths d).0, rows-small (z (a d)) (rows_of (st d).args.sizes.equations (st d).args.rows.now) (numbers d).rows_right);
       t_2 = (known-near d, le_of_eq (sym (known-long d)));
     }
 

@@ -71,7 +71,7 @@ row_sums-requires c =
     let a = st.args in record {
       t = (
         rw c.row_at.ensures.result_value
-          (row_small a.equations a.rows.now (i d) (below d) st.requires.equations_in_bounds.0 st.requires.equations_in_bounds.1),
+            (row_small a.equations a.rows.now (i d) (below d) st.requires.equations_in_bounds.0 st.requires.equations_in_bounds.1),
         c.row_at.ensures.result_len,
         rw (to_z-of_z st.ranges.n) st.requires.equations_in_bounds.2,
       );

@@ -94,8 +94,13 @@ offset_bounds-sums-i c =
 pub bounds-sums-i : goal.bounds-sums-i
 bounds-sums-i c =
     let d = (goal.at.bounds-sums-i c).In-loop-i in
-    omega (arith, d.loop-i-test.true, (s d).requires.equations_le_most_equations.0, (s d).requires.most_equations_in_bounds.0,
-      (s d).requires.most_equations_in_bounds.1)
+    omega (
+      arith,
+      d.loop-i-test.true,
+      (s d).requires.equations_le_most_equations.0,
+      (s d).requires.most_equations_in_bounds.0,
+      (s d).requires.most_equations_in_bounds.1,
+    )
 
 -- A sum that is formed.
 module _ (k : After-sum-1) where

@@ -141,7 +141,7 @@ module _ (e : After-equations_at-answer) where
       e.equations_at-answer.ensures
       ∙ ap (λ n. answer_to d.loop-j.tested
       (stored_tests n (sums (q d)) (formed (q d)) (j d) 0 (s (b d)).args.sizes.equations))
-        (turn-index (goal.at.After-equations_at-answer e).After-index_from-n)
+      (turn-index (goal.at.After-equations_at-answer e).After-index_from-n)
       ∙ ap (answer_to d.loop-j.tested) (stored d)
 
   goes_on : go_on (all (b d) (j d + 1) (left d)) (answer_of e.equations_at-answer.result) ≡ answer_to 0 (all (b d) 0 (tests (b d)))

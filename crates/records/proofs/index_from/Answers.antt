@@ -64,7 +64,7 @@ pub returns : goal.returns
 unfolding index_from_of the_sizes_of
 returns c =
     simp (to_z-of_z {w = w64} (s c).ranges.first, t-back c, to_z-of_z {w = w64} (low_fits c), j-is c, to_z-of_z {w = w64} (index-fits c))
-      record {
+    record {
       value = refl;
       result_bound = index-small c;
     }

@@ -89,8 +89,15 @@ module _ (s : Start) where
   top-fits : SFits w64 ((n +ℤ l) -ℤ first)
   top-fits =
       sfits-size ((n +ℤ l) -ℤ first) {k = 300000000}
-      (omega (arith, nat_abs-+ℤ (n +ℤ l) (neg_ℤ first), nat_abs-neg_ℤ first, nat_abs-+ℤ n l, l-small,
-        s.requires.relation_length_in_bounds.1, s.requires.t.1)) (lit< tt)
+      (omega (
+        arith,
+        nat_abs-+ℤ (n +ℤ l) (neg_ℤ first),
+        nat_abs-neg_ℤ first,
+        nat_abs-+ℤ n l,
+        l-small,
+        s.requires.relation_length_in_bounds.1,
+        s.requires.t.1,
+      )) (lit< tt)
 
   abbrev tests : List Tested
   tests = relation_tests z first s.args.vectors s.args.values.now s.args.number (e ∷ [])
@@ -173,14 +180,19 @@ overflow_sub-top c =
     let here = (goal.at.overflow_sub-top c).Else-not-inside in
     let st = s here in
     simp (to_z-of_z {w = w64} (n-fits st), to_z-of_z {w = w64} (l-fits st), to_z-of_z {w = w64} (high_fits st), to_z-of_z st.ranges.first)
-      (top-fits st)
+    (top-fits st)
 
 pub overflow_cast-top : goal.overflow_cast-top
 overflow_cast-top c =
     let here = (goal.at.overflow_cast-top c).Else-not-inside in
     let st = s here in
-    simp (to_z-of_z {w = w64} (n-fits st), to_z-of_z {w = w64} (l-fits st), to_z-of_z {w = w64} (high_fits st), to_z-of_z st.ranges.first,
-      to_z-of_z {w = w64} (top-fits st))
+    simp (
+      to_z-of_z {w = w64} (n-fits st),
+      to_z-of_z {w = w64} (l-fits st),
+      to_z-of_z {w = w64} (high_fits st),
+      to_z-of_z st.ranges.first,
+      to_z-of_z {w = w64} (top-fits st),
+    )
     (top-nonneg here, Fits-nat_abs tt (top-fits st))
 
 pub row_sums-requires : goal.row_sums-requires
@@ -188,10 +200,18 @@ unfolding top_at the_sizes_of
 row_sums-requires c =
     let d = (goal.at.row_sums-requires c).Else-not-inside in
     let st = s d in
-    simp (to_z-of_z {w = w64} (n-fits st), to_z-of_z {w = w64} (l-fits st), to_z-of_z {w = w64} (high_fits st), to_z-of_z st.ranges.first,
-      to_z-of_z {w = w64} (top-fits st)) record {
-      t = (rw c.row_at-row.ensures.result_value st.requires.relation_length_in_bounds.2, c.row_at-row.ensures.result_len,
-        omega (arith, near d));
+    simp (
+      to_z-of_z {w = w64} (n-fits st),
+      to_z-of_z {w = w64} (l-fits st),
+      to_z-of_z {w = w64} (high_fits st),
+      to_z-of_z st.ranges.first,
+      to_z-of_z {w = w64} (top-fits st),
+    ) record {
+      t = (
+        rw c.row_at-row.ensures.result_value st.requires.relation_length_in_bounds.2,
+        c.row_at-row.ensures.result_len,
+        omega (arith, near d),
+      );
       t_2 = (
         st.requires.t_2.0,
         room d,

@@ -77,7 +77,7 @@ relation_at-answer-requires c =
     simp (to_z-of_z st.ranges.first) record {
       t = (st.requires.t.0, st.requires.t.1, st.requires.t.2);
       relation_length_in_bounds =
-        (omega (arith, c.loop-i-test.true, st.requires.count_bound.0, st.requires.count_bound.1), small.0, small.1);
+          (omega (arith, c.loop-i-test.true, st.requires.count_bound.0, st.requires.count_bound.1), small.0, small.1);
       t_2 = (
         st.requires.t_2.0,
         st.requires.t_2.1,

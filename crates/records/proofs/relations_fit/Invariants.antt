@@ -12,7 +12,7 @@ abbrev pub invariant-loop-i : goal.invariant-loop-i
 invariant-loop-i l =
     (l.i ≤ l.count) × (l.tested ≤ l.before + l.i)
     × (answer_to l.tested
-      (relation_tests (the_sizes_of l.sizes) l.first l.vectors l.values (l.i + 1) (drop l.i (relations_of l.count l.relations)))
+    (relation_tests (the_sizes_of l.sizes) l.first l.vectors l.values (l.i + 1) (drop l.i (relations_of l.count l.relations)))
     ≡ answer_to l.before (relation_tests (the_sizes_of l.sizes) l.first l.vectors l.values 1 (relations_of l.count l.relations)))
 
 abbrev pub decreases-loop-i : goal.decreases-loop-i

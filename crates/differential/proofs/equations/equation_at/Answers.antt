@@ -45,7 +45,7 @@ pub returns-then-k-ne0 : goal.returns-then-k-ne0
 returns-then-k-ne0 c =
     refuses c.if-k-ne0.true
     (row_is _ _ ∙ then-fault _ (answer-fault c.if-k-ne0.true (count-answer (goal.at.returns-then-k-ne0 c).After-count_at-k)))
-        c.no_part.ensures
+    c.no_part.ensures
 
 module _ (c : After-struct_told-1) where
   count_fits : SFits w64 (count (goal.at.After-struct_told-1 c).After-count_at-k)
@@ -58,7 +58,7 @@ module _ (c : After-struct_told-1) where
 pub overflow_cast-k : goal.overflow_cast-k
 overflow_cast-k c =
     rw (to_z-of_z {w = w64} (count_fits c))
-        ((between-zero 0 _ _ (field-judged _ after_count_of _ (count-read c))).0, Fits-nat_abs tt (count_fits c))
+    ((between-zero 0 _ _ (field-judged _ after_count_of _ (count-read c))).0, Fits-nat_abs tt (count_fits c))
 
 pub terms_at-requires : goal.terms_at-requires
 terms_at-requires c =

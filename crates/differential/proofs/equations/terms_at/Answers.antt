@@ -29,7 +29,7 @@ no_term_yet-before-requires c = tt
 pub loop-left-init : goal.loop-left-init
 loop-left-init c =
     terms-begin _ c.requires.at_in_bounds.1.0 _ _ _ _ _ _ c.requires.at_in_bounds.0 c.requires.row_value c.no_term_yet-before.ensures.1
-        c.no_term_yet-before.ensures.0
+    c.no_term_yet-before.ensures.0
 
 pub overflow_sub-left : goal.overflow_sub-left
 overflow_sub-left c = omega arith
@@ -92,9 +92,10 @@ add_term-requires c =
     let e = (goal.at.add_term-requires c).Else-t-ne0 in
     record {
       row_len = (c.loop-left.invariant.long, row_small e);
-      order_le_most_derivative =
-          (c.requires.at_in_bounds.1.0.order_small,
-              ((right e).derivative-most, (term-small _ c.requires.at_in_bounds.1.0 _ (right e), (right e).factor-most)));
+      order_le_most_derivative = (
+        c.requires.at_in_bounds.1.0.order_small,
+        ((right e).derivative-most, (term-small _ c.requires.at_in_bounds.1.0 _ (right e), (right e).factor-most)),
+      );
     }
 
 pub loop-left-smaller : goal.loop-left-smaller

@@ -101,8 +101,11 @@ constant-is : (c : After-plus-constant)
 constant-is c =
     let r = (goal.at.After-plus-constant c).After-rising-f in
     to_z-of_z {w = w64} (sfits_of c.plus-constant.type_inv)
-    ∙ (simp (to_z-of_z {w = w64} (number_fits r 0 (omega arith)), to_z-of_z {w = w64} (factor-fits r),
-        to_z-of_z {w = w64} (constant-fits r)) at c.plus-constant.ensures)
+    ∙ (simp (
+      to_z-of_z {w = w64} (number_fits r 0 (omega arith)),
+      to_z-of_z {w = w64} (factor-fits r),
+      to_z-of_z {w = w64} (constant-fits r),
+    ) at c.plus-constant.ensures)
 
 linear-is : (c : After-plus-linear)
     → to_z w64 (of_z w64 c.plus-linear.result)
@@ -110,8 +113,11 @@ linear-is : (c : After-plus-linear)
 linear-is c =
     let r = (goal.at.After-plus-linear c).After-rising-f in
     to_z-of_z {w = w64} (sfits_of c.plus-linear.type_inv)
-    ∙ (simp (to_z-of_z {w = w64} (number_fits r 1 (omega arith)), to_z-of_z {w = w64} (factor-fits r),
-        to_z-of_z {w = w64} (linear-fits r)) at c.plus-linear.ensures)
+    ∙ (simp (
+      to_z-of_z {w = w64} (number_fits r 1 (omega arith)),
+      to_z-of_z {w = w64} (factor-fits r),
+      to_z-of_z {w = w64} (linear-fits r),
+    ) at c.plus-linear.ensures)
 
 square-is : (c : After-plus-square)
     → to_z w64 (of_z w64 c.plus-square.result)
@@ -119,13 +125,16 @@ square-is : (c : After-plus-square)
 square-is c =
     let r = (goal.at.After-plus-square c).After-rising-f in
     to_z-of_z {w = w64} (sfits_of c.plus-square.type_inv)
-    ∙ (simp (to_z-of_z {w = w64} (number_fits r 2 (omega arith)), to_z-of_z {w = w64} (factor-fits r),
-        to_z-of_z {w = w64} (square-fits r)) at c.plus-square.ensures)
+    ∙ (simp (
+      to_z-of_z {w = w64} (number_fits r 2 (omega arith)),
+      to_z-of_z {w = w64} (factor-fits r),
+      to_z-of_z {w = w64} (square-fits r),
+    ) at c.plus-square.ensures)
 
 pub returns : goal.returns
 unfolding term_of
 returns c =
     let r = (goal.at.returns c).After-rising-f in
     (λ i. set (set (set (p r) 0 (constant-is (goal.at.returns c).After-plus-constant i)) 1
-        (linear-is (goal.at.returns c).After-plus-linear i)) 2 (square-is c i))
+    (linear-is (goal.at.returns c).After-plus-linear i)) 2 (square-is c i))
     ∙ add-three (term_of c.args.t) _ _ _ (coefficients r) (p r) c.requires.p_len.0

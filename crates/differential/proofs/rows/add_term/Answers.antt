@@ -39,7 +39,7 @@ module _ (c : After-place-from) where
   room =
       subst (λ k. k + coefficient_count ≤ length row) (sym c.place-from.ensures)
       (le_trans (place-fits _ _ s.requires.order_le_most_derivative.0 s.requires.order_le_most_derivative.1.0
-          s.requires.order_le_most_derivative.1.1.0) (le_of_eq (sym s.requires.row_len.0)))
+      s.requires.order_le_most_derivative.1.1.0) (le_of_eq (sym s.requires.row_len.0)))
 
   part-long : length (mid_of from (from + coefficient_count - from) row) ≡ coefficient_count
   part-long = lent-long row from coefficient_count room

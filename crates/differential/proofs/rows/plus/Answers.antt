@@ -31,8 +31,12 @@ overflow_mul-result c = simp (to_z-of_z {w = w64} c.ranges.factor, to_z-of_z {w 
 
 pub overflow_add-result : goal.overflow_add-result
 overflow_add-result c =
-    simp (to_z-of_z {w = w64} c.ranges.number, to_z-of_z {w = w64} c.ranges.factor, to_z-of_z {w = w64} c.ranges.coefficient,
-        to_z-of_z {w = w64} (product-fits c)) (sum_fits c)
+    simp (
+      to_z-of_z {w = w64} c.ranges.number,
+      to_z-of_z {w = w64} c.ranges.factor,
+      to_z-of_z {w = w64} c.ranges.coefficient,
+      to_z-of_z {w = w64} (product-fits c),
+    ) (sum_fits c)
 
 pub returns : goal.returns
 returns c =

@@ -123,7 +123,7 @@ unfolding extent_of
 returns-then-e-bytes c =
     sheet-refuses (λ e. omega arith)
     (end-fault _ _ _ (extent-read (goal.at.returns-then-e-bytes c).Else-h-ne0) _ _
-        (rows-read (goal.at.returns-then-e-bytes c).After-equations_at-e c.if-e-ne0.false) c.if-e-bytes.true)
+    (rows-read (goal.at.returns-then-e-bytes c).After-equations_at-e c.if-e-ne0.false) c.if-e-bytes.true)
     c.no_sheet-then-e-bytes.ensures
 
 pub returns : goal.returns
@@ -133,7 +133,7 @@ returns c =
       read =
           λ _.
           end-got _ _ _ (extent-read (goal.at.returns c).Else-h-ne0) _ _
-              (rows-read (goal.at.returns c).After-equations_at-e c.if-e-ne0.false) (length-rows_of _ _) c.if-e-bytes.false;
+          (rows-read (goal.at.returns c).After-equations_at-e c.if-e-ne0.false) (length-rows_of _ _) c.if-e-bytes.false;
       small = λ _. small (goal.at.returns c).Else-h-ne0;
       refused = λ h. absurd (h refl);
     }

@@ -96,7 +96,7 @@ module _ (c : After-ordered_at-j) where
 
   j-answer : Answers (s (d e)).args.bytes.now c.ordered_at-j.result.refusal j c.ordered_at-j.result.at
       (field (judge_ordered_of 0 (s (d e)).args.x.degree (first_power_of (term_of (s (d e)).args.before) (nat_abs (k (d e))))
-          (s (d e)).args.x.degree)
+      (s (d e)).args.x.degree)
       (always 32) (drop c.ordered_at-k.result.at (s (d e)).args.bytes.now))
   j-answer = rw (lowest-is e) at c.ordered_at-j.ensures
 
@@ -105,7 +105,7 @@ unfolding read_place extent_of term_of
 returns-then-j-ne0 c =
     refuses c.if-j-ne0.true
     (then-got _ (k-read (goal.at.returns-then-j-ne0 c).After-struct_told-1)
-        ∙ then-fault _ (answer-fault c.if-j-ne0.true (j-answer (goal.at.returns-then-j-ne0 c).After-ordered_at-j)))
+    ∙ then-fault _ (answer-fault c.if-j-ne0.true (j-answer (goal.at.returns-then-j-ne0 c).After-ordered_at-j)))
     c.no_term-then-j-ne0.ensures
 
 module _ (c : After-struct_told-2-1) where
@@ -136,9 +136,11 @@ module _ (c : After-first_column-leftmost) where
 
   leftmost-is : c.first_column-leftmost.result
       ≡ first_column_of (term_of c.args.before) (nat_abs (k (goal.at.After-first_column-leftmost c).After-struct_told-1))
-          (nat_abs (j (f g)))
-  leftmost-is = simp (to_z-of_z {w = w64} (k-fits (goal.at.After-first_column-leftmost c).After-struct_told-1),
-      to_z-of_z {w = w64} (j-fits g)) at c.first_column-leftmost.ensures
+      (nat_abs (j (f g)))
+  leftmost-is = simp (
+    to_z-of_z {w = w64} (k-fits (goal.at.After-first_column-leftmost c).After-struct_told-1),
+    to_z-of_z {w = w64} (j-fits g),
+  ) at c.first_column-leftmost.ensures
 
 pub ordered_at-c-requires : goal.ordered_at-c-requires
 unfolding extent_of
@@ -149,7 +151,7 @@ ordered_at-c-requires c = (
     high-few = omega (arith, c.requires.1.unknowns-few);
     first-few =
         rw (leftmost-is c) (column-few (term_of c.args.before) (nat_abs (k (goal.at.ordered_at-c-requires c).After-struct_told-1))
-            (nat_abs (j (f (g c)))) c.requires.2);
+        (nat_abs (j (f (g c)))) c.requires.2);
     last-few = omega (arith, c.requires.1.unknowns-few);
   },
 )
@@ -168,7 +170,7 @@ module _ (c : After-ordered_at-c) where
   column-answer : Answers c.args.bytes.now c.ordered_at-c.result.refusal column c.ordered_at-c.result.at
       (field (judge_ordered_of 1 c.args.x.unknowns
       (first_column_of (term_of c.args.before) (nat_abs (k (goal.at.After-ordered_at-c c).After-struct_told-1))
-          (nat_abs (j (goal.at.After-ordered_at-c c).After-ordered_at-j)))
+      (nat_abs (j (goal.at.After-ordered_at-c c).After-ordered_at-j)))
       c.args.x.unknowns) (always 32)
       (drop c.ordered_at-j.result.at c.args.bytes.now))
   column-answer = rw (leftmost-is h) at c.ordered_at-c.ensures
@@ -178,7 +180,7 @@ unfolding read_place extent_of term_of
 returns-then-c-ne0 c =
     refuses c.if-c-ne0.true
     (then-got _ (k-read (goal.at.returns-then-c-ne0 c).After-struct_told-1)
-        ∙ then-got _ (j-read (goal.at.returns-then-c-ne0 c).After-struct_told-2-1)
+    ∙ then-got _ (j-read (goal.at.returns-then-c-ne0 c).After-struct_told-2-1)
     ∙ then-fault _ (answer-fault c.if-c-ne0.true (column-answer (goal.at.returns-then-c-ne0 c).After-ordered_at-c)))
     c.no_term-then-c-ne0.ensures
 
@@ -188,7 +190,7 @@ module _ (c : After-struct_told-3-1) where
 
   column-read : field (judge_ordered_of 1 c.args.x.unknowns
       (first_column_of (term_of c.args.before) (nat_abs (k (goal.at.After-struct_told-3-1 c).After-struct_told-1))
-          (nat_abs (j (goal.at.After-struct_told-3-1 c).After-ordered_at-j)))
+      (nat_abs (j (goal.at.After-struct_told-3-1 c).After-ordered_at-j)))
       c.args.x.unknowns) (always 32)
       (drop c.ordered_at-j.result.at c.args.bytes.now)
       ≡ got (column (goal.at.After-struct_told-3-1 c).After-ordered_at-c) (drop c.ordered_at-c.result.at c.args.bytes.now)
@@ -202,8 +204,11 @@ overflow_cast-result c =
 pub returns : goal.returns
 unfolding read_place extent_of term_of
 returns c =
-    gives (simp (to_z-of_z {w = w64} (k-fits (goal.at.returns c).After-struct_told-1),
-        to_z-of_z {w = w64} (j-fits (goal.at.returns c).After-struct_told-2-1), to_z-of_z {w = w64} (column_fits c)))
+    gives (simp (
+      to_z-of_z {w = w64} (k-fits (goal.at.returns c).After-struct_told-1),
+      to_z-of_z {w = w64} (j-fits (goal.at.returns c).After-struct_told-2-1),
+      to_z-of_z {w = w64} (column_fits c),
+    ))
     (then-got _ (k-read (goal.at.returns c).After-struct_told-1) ∙ then-got _ (j-read (goal.at.returns c).After-struct_told-2-1)
-        ∙ then-got _ (column-read c))
+    ∙ then-got _ (column-read c))
     c.ordered_at-c.ensures.within

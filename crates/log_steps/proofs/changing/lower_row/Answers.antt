@@ -125,7 +125,7 @@ returns c =
     let span = s.args.span in
     λ relations ready.
     stepped_same (c.put_limited.ensures.rows_after
-        ∙ ap₂ (saved (rows s) (i s)) (refusal_is d) (ap numbers_held (row_is d) ∙ numbers-worked (new e)))
+    ∙ ap₂ (saved (rows s) (i s)) (refusal_is d) (ap numbers_held (row_is d) ∙ numbers-worked (new e)))
     (c.put_limited.ensures.value ∙ ap (λ n. answer_of n (p s)) (refusal_is d)) refl
     (lower-stepped span ready (begun s).unsettled (i s) (inside e)
     (lower-allowed span ready (begun s).unsettled (i s) (inside e) ∙ sym d.block_zero.ensures

@@ -124,7 +124,7 @@ returns c =
     let e = passed l in
     λ D relations ready.
     stepped_same (c.put_limited.ensures.rows_after
-        ∙ ap₂ (saved (rows s) (i s)) (refusal_is d) (ap numbers_held (row_is d) ∙ numbers-worked (new l)))
+    ∙ ap₂ (saved (rows s) (i s)) (refusal_is d) (ap numbers_held (row_is d) ∙ numbers-worked (new l)))
     (c.put_limited.ensures.value ∙ ap (λ n. answer_of n (shifted_progress (p s))) (refusal_is d)) refl
     (raise-stepped D ready (begun s).unsettled (i s) (inside e)
     (raise-allowed D ready (begun s).unsettled (i s) (inside e) ∙ sym l.block_zero.ensures

@@ -14,4 +14,4 @@ returns c =
     let l = numbers_at c.args.rows.now c.args.i in
     c.is_zero.ensures ∙ ap is_zero_of c.row_at.ensures.result_value
     ∙ sym (zero_row-numbers (row_of l)
-        ∙ ap is_zero_of (coefficients_of-row_of-all l (sym (ap length c.row_at.ensures.result_value) ∙ c.row_at.ensures.result_len)))
+    ∙ ap is_zero_of (coefficients_of-row_of-all l (sym (ap length c.row_at.ensures.result_value) ∙ c.row_at.ensures.result_len)))

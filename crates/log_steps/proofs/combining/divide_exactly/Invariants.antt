@@ -14,7 +14,7 @@ use Rattle.log_steps.proofs.combining.divide_exactly.Given as goal
 abbrev pub invariant-loop-k : goal.invariant-loop-k
 invariant-loop-k l =
     Overwritten (length l.initial.numbers) (divide_by (nat_abs l.d) l.initial.numbers) l.numbers l.k
-        × (drop l.k l.numbers ≡ drop l.k l.initial.numbers)
+    × (drop l.k l.numbers ≡ drop l.k l.initial.numbers)
     × ((j : ℕ) → j < l.k → rem_z (coeff l.initial.numbers j) l.d ≡ pos 0)
 
 abbrev pub decreases-loop-k : goal.decreases-loop-k

@@ -66,10 +66,18 @@ divides_sum-requires c =
     let from = c.loop-e.e * coefficient_count in
     let width = from + coefficient_count - from in record {
       d_nonzero = rw (to_z-of_z {w = w64} c.ranges.d) c.requires.d_nonzero;
-      g_len_bound = (le_of_eq c.requires.g_len.0, c.requires.g_len.1, rw length-take (omega arith),
-          every-part small from width c.args.target.now c.requires.target_len.2);
-      h_len_bound = (le_of_eq c.requires.g_len.2, c.requires.g_len.3, rw length-take (omega arith),
-          every-part small from width c.args.pivot.now c.requires.target_len.3);
+      g_len_bound = (
+        le_of_eq c.requires.g_len.0,
+        c.requires.g_len.1,
+        rw length-take (omega arith),
+        every-part small from width c.args.target.now c.requires.target_len.2,
+      );
+      h_len_bound = (
+        le_of_eq c.requires.g_len.2,
+        c.requires.g_len.3,
+        rw length-take (omega arith),
+        every-part small from width c.args.pivot.now c.requires.target_len.3,
+      );
     }
 
 pub returns-then-not-divides_sum : goal.returns-then-not-divides_sum

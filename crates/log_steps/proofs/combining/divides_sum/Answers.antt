@@ -73,4 +73,4 @@ returns c =
     sym (ap (λ x. divides_all (nat_abs x) sum) (sym (to_z-of_z {w = w64} c.ranges.d))
     ∙ sum-divided (to_z w64 (of_z w64 a.d)) sum c.loop-k.k c.loop-k.invariant
     (λ j l. past-sum a.g.now a.p.now a.h.now a.q.now c.requires.g_len_bound.0 c.requires.g_len_bound.2 c.requires.h_len_bound.0
-        c.requires.h_len_bound.2 j (omega arith)))
+    c.requires.h_len_bound.2 j (omega arith)))

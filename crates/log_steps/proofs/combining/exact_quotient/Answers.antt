@@ -132,9 +132,11 @@ returns-then-not-divide_exactly-2 c =
     let s = (goal.at.returns-then-not-divide_exactly-2 c).Start in
     let second = c.divide_exactly-2.ensures.value ∙ same-right s in
     let e = inexact s (ap (λ t. divides_all (n s) (left s) && t) (sym second ∙ c.if-not-divide_exactly-2.true)
-    ∙ and-false (divides_all (n s) (left s))) in
-    (c.broken-then-not-divide_exactly-2.ensures.0 ∙ sym (ap refusal_of e), c.broken-then-not-divide_exactly-2.ensures.1
-        ∙ sym (ap worked_row e))
+    ∙ and-false (divides_all (n s) (left s))) in (
+      c.broken-then-not-divide_exactly-2.ensures.0 ∙ sym (ap refusal_of e),
+      c.broken-then-not-divide_exactly-2.ensures.1
+          ∙ sym (ap worked_row e),
+    )
 
 pub returns-then-not-all_small : goal.returns-then-not-all_small
 unfolding refusal_of

@@ -25,4 +25,4 @@ quotient-requires c =
 pub returns : goal.returns
 returns c =
     read_back c.quotient.result c.quotient.type_inv ∙ c.quotient.ensures
-        ∙ ap₂ quot_z (to_z-of_z {w = w64} c.ranges.a) (to_z-of_z {w = w64} c.ranges.d)
+    ∙ ap₂ quot_z (to_z-of_z {w = w64} c.ranges.a) (to_z-of_z {w = w64} c.ranges.d)

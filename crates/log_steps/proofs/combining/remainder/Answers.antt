@@ -23,4 +23,4 @@ remainder-requires c =
 pub returns : goal.returns
 returns c =
     read_back c.remainder.result c.remainder.type_inv ∙ c.remainder.ensures
-        ∙ ap₂ rem_z (to_z-of_z {w = w64} c.ranges.a) (to_z-of_z {w = w64} c.ranges.d)
+    ∙ ap₂ rem_z (to_z-of_z {w = w64} c.ranges.a) (to_z-of_z {w = w64} c.ranges.d)

@@ -31,7 +31,7 @@ module _ (c : After-shifted-worked) where
   shown : Shown c.shifted-worked.result.refusal c.shifted-worked.result.row (raised row full)
   shown =
       subst (λ v. Shown c.shifted-worked.result.refusal c.shifted-worked.result.row
-          (limit_coefficients (shift_up (row_of (numbers_held v)))))
+      (limit_coefficients (shift_up (row_of (numbers_held v)))))
       c.mirrored.ensures (c.shifted-worked.ensures.refusal_value, c.shifted-worked.ensures.row_value)
 
 -- where that is not refused
@@ -45,9 +45,11 @@ mirrored-requires c = (omega arith, c.requires.0, c.requires.1)
 pub shifted-worked-requires : goal.shifted-worked-requires
 shifted-worked-requires c =
     let w = c.args.row in
-    subst (λ v. Full v × T (every small (numbers_held v)) × (v.width ≡ width (row_of v.entries))) (sym c.mirrored.ensures)
-    (full-mirrored most_span w (le_refl most_span) c.requires.0,
-        small-mirrored most_span w (le_refl most_span) c.requires.0 c.requires.1, refl)
+    subst (λ v. Full v × T (every small (numbers_held v)) × (v.width ≡ width (row_of v.entries))) (sym c.mirrored.ensures) (
+      full-mirrored most_span w (le_refl most_span) c.requires.0,
+      small-mirrored most_span w (le_refl most_span) c.requires.0 c.requires.1,
+      refl,
+    )
 
 pub returns-then-refusal-ne0 : goal.returns-then-refusal-ne0
 returns-then-refusal-ne0 c =

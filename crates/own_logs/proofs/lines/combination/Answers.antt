@@ -36,8 +36,10 @@ module _ (c : Start) where
   column = c.args.c
 
   fits-entry : (l : List ℤ) → length l ≡ row_length → T (every small l) → Sixteen (entry (row_of l) column)
-  fits-entry l e s = (length-entry l column (omega (arith, e)) c.requires.i_lt_most_equations.2,
-      small-entry l column s c.requires.i_lt_most_equations.2)
+  fits-entry l e s = (
+    length-entry l column (omega (arith, e)) c.requires.i_lt_most_equations.2,
+    small-entry l column s c.requires.i_lt_most_equations.2,
+  )
 
   abbrev x : Multipliers
   x = multipliers (entry (row_of pivot) column) (entry (row_of target) column)
@@ -45,7 +47,7 @@ module _ (c : Start) where
   fits : Sixteen x.g × Sixteen x.h
   fits =
       multipliers-fit (entry (row_of pivot) column) (entry (row_of target) column)
-          (fits-entry pivot c.requires.target_len.1 c.requires.target_len.3)
+      (fits-entry pivot c.requires.target_len.1 c.requires.target_len.3)
       (fits-entry target c.requires.target_len.0 c.requires.target_len.2)
 
   abbrev result : Row
@@ -110,8 +112,9 @@ module _ (c : Joined-content-eq0) where
   divisor-below : c.if-content-eq0.divisor < 2 ^ 63
   divisor-below =
       elim c.if-content-eq0.branch [
-        then-content-eq0 w ↦ omega arith
-        | else-content-eq0 w ↦ omega (arith, (found (goal.at.Joined-content-eq0 c).After-undivided_stored-made).below) ]
+        | then-content-eq0 w ↦ omega arith
+        | else-content-eq0 w ↦ omega (arith, (found (goal.at.Joined-content-eq0 c).After-undivided_stored-made).below)
+      ]
 
   divisor-is : low_degrees (result (base (goal.at.Joined-content-eq0 c).After-undivided_stored-made)) ≡ true → c.if-content-eq0.divisor
       ≡ divisor_of (result (base (goal.at.Joined-content-eq0 c).After-undivided_stored-made))
@@ -119,15 +122,19 @@ module _ (c : Joined-content-eq0) where
       let r = result (base (goal.at.Joined-content-eq0 c).After-undivided_stored-made) in
       let same = (found (goal.at.Joined-content-eq0 c).After-undivided_stored-made).content-is low in
       elim c.if-content-eq0.branch [
-        then-content-eq0 w ↦ w.divisor-is ∙ sym (divisor-zero r (sym same ∙ w.if-content-eq0.true))
-        | else-content-eq0 w ↦ w.divisor-is ∙ same ∙ sym (divisor-some r (λ e. w.if-content-eq0.false (same ∙ e))) ]
+        | then-content-eq0 w ↦ w.divisor-is ∙ sym (divisor-zero r (sym same ∙ w.if-content-eq0.true))
+        | else-content-eq0 w ↦ w.divisor-is ∙ same ∙ sym (divisor-some r (λ e. w.if-content-eq0.false (same ∙ e)))
+      ]
 
 pub put_multipliers_at-requires : goal.put_multipliers_at-requires
 put_multipliers_at-requires c =
     record {
       g_len = (refl, refl);
-      c_lt_column_count = (c.requires.i_lt_most_equations.2, omega (arith, c.requires.target_len.0),
-          omega (arith, c.requires.target_len.1));
+      c_lt_column_count = (
+        c.requires.i_lt_most_equations.2,
+        omega (arith, c.requires.target_len.0),
+        omega (arith, c.requires.target_len.1),
+      );
       t = (c.requires.target_len.2, c.requires.target_len.3);
       t_2 = c.requires.t;
     }

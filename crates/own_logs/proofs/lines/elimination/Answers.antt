@@ -119,7 +119,7 @@ module _ (c : Start) where
 
   said : (t : Bool) (lines : Lines) → ltb (width (row_of (numbers_at rows i))) (width (row_of (numbers_at rows j))) ≡ t
       → LinesOf (changes_by t) lines → LinesOf
-          (changes_by (ltb (width (row_of (numbers_at rows i))) (width (row_of (numbers_at rows j))))) lines
+      (changes_by (ltb (width (row_of (numbers_at rows i))) (width (row_of (numbers_at rows j))))) lines
   said t lines e h = subst (λ u. LinesOf (changes_by u) lines) (sym e) h
 
 -- both rows, where they stand

@@ -133,5 +133,5 @@ returns c =
     let st = s (a (d e)) in
     Checks.all_right (z (a (d e))) st.args.count st.args.first st.args.vectors st.args.rows.now st.args.relations.now
     st.args.values.now (not-two (goal.at.Else-not-record_right (d e)).Else-system-eq2) (not-one e)
-      (λ k. c.if-system-eq5.false (system-is (a (d e)) ∙ k)) (indices (d e))
+    (λ k. c.if-system-eq5.false (system-is (a (d e)) ∙ k)) (indices (d e))
     (le-leb _ _ (enough e)) (sym c.values_right.ensures ∙ c.if-not-values_right.false)

@@ -162,7 +162,7 @@ loop-k-preserved c =
     let added = rw (to_z-of_z {w = w64} (s d).ranges.n) at c.with_term-formed.ensures in (
       omega (arith, below d),
       kept-both a.at a.tests a.tests (formed d) a.sums.now (sums d) c.with_term-formed.new.sums (omega arith) (so_far d).few (kept d)
-        added.kept,
+          added.kept,
       rw (to_z-of_z {w = w64} (s d).ranges.n)
           (left-next a.n (row d) (values d) a.base a.m (shape d) (k d) a.tests a.at (sums d) (formed d)
           c.with_term-formed.result c.with_term-formed.new.sums

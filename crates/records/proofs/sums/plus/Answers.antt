@@ -34,7 +34,7 @@ pub overflow_add-result : goal.overflow_add-result
 overflow_add-result c =
     let start = (goal.at.overflow_add-result c).Start in
     simp (to_z-of_z c.ranges.sum, to_z-of_z c.ranges.value, to_z-of_z c.ranges.number, to_z-of_z {w = w64} (product-fits c))
-      (sum_fits start)
+    (sum_fits start)
 
 pub returns : goal.returns
 returns c =

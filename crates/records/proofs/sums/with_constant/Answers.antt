@@ -141,7 +141,7 @@ plus-is : (g : After-plus)
 plus-is g =
     let d = g.before.before.before in
     to_z-of_z {w = w64} (sfits_of g.plus.type_inv)
-      ∙ (simp (to_z-of_z (sum_fits d), to_z-of_z (factor-fits d), to_z-of_z (number_fits d)) at g.plus.ensures)
+    ∙ (simp (to_z-of_z (sum_fits d), to_z-of_z (factor-fits d), to_z-of_z (number_fits d)) at g.plus.ensures)
 
 pub loop-j-preserved : goal.loop-j-preserved
 loop-j-preserved c =

@@ -118,8 +118,11 @@ evaluate-requires c =
 -- What Horner's rule gives there.
 value_of : (e : After-evaluate) → formed_of e.evaluate.result
     ≡ horner (index (goal.at.After-evaluate e).In-loop-j) (p (goal.at.After-evaluate e).In-loop-j)
-value_of e = simp (to_z-of_z (s (goal.at.After-evaluate e).In-loop-j).ranges.n, j-is (goal.at.After-evaluate e).In-loop-j,
-    to_z-of_z (index-fits (goal.at.After-evaluate e).In-loop-j)) at e.evaluate.ensures
+value_of e = simp (
+  to_z-of_z (s (goal.at.After-evaluate e).In-loop-j).ranges.n,
+  j-is (goal.at.After-evaluate e).In-loop-j,
+  to_z-of_z (index-fits (goal.at.After-evaluate e).In-loop-j),
+) at e.evaluate.ensures
 
 pub shape_of-sums-in_default : goal.shape_of-sums-in_default
 shape_of-sums-in_default c = (so_far (goal.at.shape_of-sums-in_default c).In-loop-j).kept.same_length

@@ -45,7 +45,7 @@ pub column_term-count-requires : goal.column_term-count-requires
 column_term-count-requires c =
     let d = (goal.at.column_term-count-requires c).In-loop-c in record {
       coefficient_count_in_bounds =
-        (omega (arith, below d, (s d).requires.block_length_in_bounds), (s d).requires.block_length_in_bounds.1);
+          (omega (arith, below d, (s d).requires.block_length_in_bounds), (s d).requires.block_length_in_bounds.1);
       shape_len = ((so_far d).same_length ∙ (s d).requires.shape_len.0, omega (arith, (so_far d).few, below d, (s d).requires.shape_len.1));
     }
 

@@ -58,4 +58,4 @@ returns-else-used-eq0 c =
     let w = (goal.at.returns-else-used-eq0 c).After-used-used in
     simp (used-is w)
     (column-listed (row w) (shape w) (s w).args.count (s w).args.from (s w).args.number (omega (arith, (s w).requires.shape_len))
-      (s w).requires.coefficient_count_in_bounds.0)
+    (s w).requires.coefficient_count_in_bounds.0)

@@ -52,7 +52,7 @@ pub block_terms-count-requires : goal.block_terms-count-requires
 block_terms-count-requires c =
     let d = (goal.at.block_terms-count-requires c).In-loop-b in record {
       block_length_in_bounds =
-        (omega (arith, below d, (s d).requires.0, (s d).requires.2), (s d).requires.0, (s d).requires.1, omega (arith, numbers-few d));
+          (omega (arith, below d, (s d).requires.0, (s d).requires.2), (s d).requires.0, (s d).requires.1, omega (arith, numbers-few d));
       shape_len = ((so_far d).long, terms-few d);
     }
 

@@ -42,6 +42,6 @@ returns c =
     let count = (l c).left_terms-count.result in
     subst (λ k. Shaped (s c).args.m (s c).args.span (row c)
     (set (set shape (polynomial_count * term_length_of) count) (polynomial_count * term_length_of + 1) (entries_length + k)))
-      (sym (used-is c))
+    (sym (used-is c))
     (blocks-shaped (s c).args.m (s c).args.span (row c) shape count (s c).requires.1 (s c).requires.2 (s c).requires.0
-      (l c).left_terms-count.ensures)
+    (l c).left_terms-count.ensures)

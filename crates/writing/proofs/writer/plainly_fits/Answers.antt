@@ -30,12 +30,16 @@ module _ (c : Start) where
       ≤ number_bytes * (c.args.equations + 2 * c.args.count + (in_rows + in-relations))
   most l h =
       lines-most l c.args.equations c.args.count c.args.rows.now c.args.relations.now h c.requires.equations_le_most_equations.2
-          c.requires.count_le_most_relations.2
+      c.requires.count_le_most_relations.2
 
 pub returns-then-others-most : goal.returns-then-others-most
 returns-then-others-most c =
-    λ _ l h. omega (arith, most (goal.at.returns-then-others-most c).Start l h, few (goal.at.returns-then-others-most c).Start,
-        few-more (goal.at.returns-then-others-most c).Start)
+    λ _ l h. omega (
+      arith,
+      most (goal.at.returns-then-others-most c).Start l h,
+      few (goal.at.returns-then-others-most c).Start,
+      few-more (goal.at.returns-then-others-most c).Start,
+    )
 
 -- what the calls counted
 module _ (c : After-most_in_records-2) where

@@ -44,7 +44,7 @@ returns c =
     let store = args.relations.now in
     let bytes : ℤ → List ℤ → List ℕ = λ l part. lines (map (relation_line l) (relations_of (args.count - args.first) part)) in
     let enough : args.first * relation_length ≤ length store =
-        omega (arith, c.requires.count_le_most_relations.1, c.requires.first_le_count.0) in
+    omega (arith, c.requires.count_le_most_relations.1, c.requires.first_le_count.0) in
     put_same (put_then c.put_text-after_given.ensures c.put_relations.ensures)
     (ap₂ ◌++◌ c.requires.first_le_count.1
     (ap₂ bytes (to_z-of_z {w = w64} c.ranges.l) (whole_part store (args.first * relation_length) enough).0)

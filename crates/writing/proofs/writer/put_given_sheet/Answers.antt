@@ -76,7 +76,7 @@ module _ (c : After-put_count-after_count) where
       let written =
       put_then after-sizes.put_sizes-after_sizes.ensures
       (put_then after-number.put_count-after_number.ensures
-          (put_then after-rows.put_equations-after_rows.ensures c.put_count-after_count.ensures)) in
+      (put_then after-rows.put_equations-after_rows.ensures c.put_count-after_count.ensures)) in
       omega (arith, written.passed, written.few, few-rows)
 
   text : length begun.args.given.now < 2 ^ 63
@@ -177,9 +177,17 @@ put_given-after_relations-requires c =
 pub put_order-after_order-requires : goal.put_order-after_order-requires
 put_order-after_order-requires c =
     let after-count = (goal.at.put_order-after_order-requires c).After-put_count-after_count in
-    let ready = (begun after-count).requires.checked in
-    (ready.1, omega (arith, c.put_given-after_relations.ensures.passed, c.put_given-after_relations.ensures.few, place after-count,
-        ready.0.few, text after-count))
+    let ready = (begun after-count).requires.checked in (
+      ready.1,
+      omega (
+        arith,
+        c.put_given-after_relations.ensures.passed,
+        c.put_given-after_relations.ensures.few,
+        place after-count,
+        ready.0.few,
+        text after-count,
+      ),
+    )
 
 pub put_fifth-requires : goal.put_fifth-requires
 unfolding equations the_sizes_of

@@ -69,5 +69,5 @@ returns c =
     c.put_byte.ensures)
     (ap₂ (λ a n. bytes a n part read-l) (to_z-of_z {w = w64} read) c.term_lengths-terms.ensures.0
     ∙ ap₂ (λ row l. bytes (get_or numbers 0 (pos 0)) (nonzero_count (polynomials_in row)) row l) (rest numbers)
-        (to_z-of_z {w = w64} c.ranges.l)
+    (to_z-of_z {w = w64} c.ranges.l)
     ∙ relation-line c.args.l numbers)

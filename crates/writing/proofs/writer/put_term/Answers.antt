@@ -60,7 +60,7 @@ returns c =
     let column = args.column in
     let coefficients = take (n t) (p t) in
     let bound : number_bytes + (count_bytes + (count_bytes + number_bytes * length coefficients)) ≤ term_bytes =
-        omega (arith, size t, few t) in
+    omega (arith, size t, few t) in
     put-wide
     (put_same
     (spaced-then (_ ∷ []) (pos column ∷ pos (n t) ∷ coefficients) c.put_next_short-after_block.ensures

@@ -81,7 +81,7 @@ loop-b-preserved c =
     let arg = (goal.at.loop-b-preserved c).After-put_block-arg-in-loop-b-2-1 in
     let row = (start arg).args.row.now in
     let written : ℤ → ℕ → List ℕ =
-        λ s n. spaced (numbers_of (block_terms_of s 1 (block_of (take n (drop (b arg * block_length) row))))) in (
+    λ s n. spaced (numbers_of (block_terms_of s 1 (block_of (take n (drop (b arg * block_length) row))))) in (
       omega arith,
       going_next arg.loop-b.invariant.1 (terms-next (l arg) row (b arg) (omega arith))
           (put_same c.put_block-next.ensures

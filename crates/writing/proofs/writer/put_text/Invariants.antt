@@ -9,7 +9,7 @@ use Rattle.writing.proofs.writer.put_text.Given as goal
 abbrev pub invariant-loop-i : goal.invariant-loop-i
 invariant-loop-i l =
     (l.i ≤ l.stored) × (length l.bytes ≡ length l.initial.bytes)
-        × (sets l.bytes (l.at + l.i) (drop l.i l.text) ≡ sets l.initial.bytes l.at l.text)
+    × (sets l.bytes (l.at + l.i) (drop l.i l.text) ≡ sets l.initial.bytes l.at l.text)
 
 abbrev pub decreases-loop-i : goal.decreases-loop-i
 decreases-loop-i l = l.stored - l.i

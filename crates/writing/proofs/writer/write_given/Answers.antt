@@ -100,7 +100,7 @@ returns-then-given_fits c =
     let o = (goal.at.returns-then-given_fits c).After-order_length-n in
     let room = c.given_fits.ensures (true-T _ c.if-given_fits.true) (z o).l (facts o).blocks (start o).requires.first_le_count.1 in
     put_whole (z o) (start o).args.count (order o) (rows o) (relations o) (n o) (given o) (store o) (start o).requires.relations_value
-        c.put_given_sheet-length.ensures refl
+    c.put_given_sheet-length.ensures refl
     (omega (arith, c.put_given_sheet-length.ensures.few, room))
 
 pub put_given_sheet-needed-requires : goal.put_given_sheet-needed-requires
@@ -117,7 +117,7 @@ returns-then-bytes-needed c =
     let p = (goal.at.returns-then-bytes-needed c).After-put_given_sheet-needed in
     let o = here p in
     put-short (z o) (start o).args.count (order o) (rows o) (relations o) (n o) (given o) (store o) (start o).requires.relations_value
-        (kept p)
+    (kept p)
     (omega (arith, counted p, ap length (kept p), c.if-bytes-needed.true))
 
 pub put_given_sheet-length-requires-2 : goal.put_given_sheet-length-requires-2
@@ -130,5 +130,5 @@ returns c =
     let p = (goal.at.returns c).After-put_given_sheet-needed in
     let o = here p in
     put_whole (z o) (start o).args.count (order o) (rows o) (relations o) (n o) (given o) (store o) (start o).requires.relations_value
-        c.put_given_sheet-length-2.ensures (kept p)
+    c.put_given_sheet-length-2.ensures (kept p)
     (omega (arith, counted p, ap length (kept p), c.if-bytes-needed.false))

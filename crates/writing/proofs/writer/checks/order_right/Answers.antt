@@ -58,4 +58,4 @@ unfolding order_right_of
 returns-else-different_columns c =
     let given = (goal.at.returns-else-different_columns c).After-order_length-n in
     rw (ap (different_columns_of _) (columns given) ∙ sym c.different_columns.ensures ∙ c.if-different_columns.false)
-        c.if-different_columns.false
+    c.if-different_columns.false
