@@ -7,7 +7,6 @@
 --   fits-explains           "fits" says that the system explains the record
 --   explains-fits           if it does and 12 does not come, the answer is "fits", with the number of tests
 --   failure-value           a failure's sum is the nonzero value of its row at its index
---   satisfied-explains      a sequence that satisfies the system and agrees with the record explains it, so it never fails
 use Prim.Native.Nat.{ℕ, zero, suc, ◌+◌, ◌-◌, ◌≤◌, ◌<◌, suc-le-suc}
 use Rattle.std.proofs.Common.{add-zero, zero-add, not-suc-le-zero, le_of_suc-le-suc, eq-or-lt_of_le, ◌∙◌, ap}
 use native.Mathlib.Omega.{arith}

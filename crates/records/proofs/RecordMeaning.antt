@@ -1,7 +1,6 @@
 -- What the sums of a record mean.
 --
 -- Main statements
---   horner-none         it gives none exactly if a value on the way is past the limit
 --   row_sum-none         the sum of a row is none exactly if one of its polynomials passes the limit
 --   sum-value           a sum that is formed is the row's value on every sequence that agrees with the record
 use Rattle.std.specs.Prelude.{ℕ, zero, suc, pred, ◌+◌, ◌*◌, ◌-◌, ◌≤◌, ◌<◌, ◌≡◌, refl, ◌↔◌, ◌⊎◌, T, length, take, drop, get_or, ℤ, neg_ℤ, ◌+ℤ◌, ◌-ℤ◌, ◌*ℤ◌, ◌≤ℤ◌}

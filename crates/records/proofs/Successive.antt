@@ -1,14 +1,7 @@
 -- The sums of a row at successive n, which stand one after the other in a store.
 --
 -- Main statements
---   added_none, added_next, added-stop   one n more
---   kept-none, kept-both        one change after the other
---   known_next, left-next       one polynomial more
---   sum-size                    how large the sum of the first terms is
---   left_near                   which leaves room for one product more
 --   less-right, row-known       a product with -1 is subtracted: the right side after the terms
---   all-next                    one row more
---   stored-tests, stored-formed     the tests of the rows are those; where they fit, all sums are formed
 use Prim.Native.Nat.{ℕ, ◌+◌, ◌*◌, ◌-◌, ◌≤◌}
 use Rattle.std.proofs.Common.{◌∙◌}
 use Rattle.std.proofs.Math.Nat.{add-mul}

@@ -3,6 +3,9 @@
 -- Main definitions
 --   named                   the row of an equation or a relation, by its number
 --   Explains y              the equations hold of y wherever all their blocks lie in the record, and so do the relations there
+--
+-- Main statements
+--   satisfied-explains      a sequence that satisfies the system and agrees with the record explains it, so it never fails
 use Prim.Native.Nat.{ℕ, pred, ◌-◌}
 use Rattle.std.specs.Prelude.{◌≡◌, get_or, ℤ}
 use mathlib.Core.List.{List}

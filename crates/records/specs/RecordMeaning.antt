@@ -5,6 +5,9 @@
 --   entries_of m D r     the polynomials of a row that are evaluated, in their order
 --   RowPasses           one of them passes the limit
 --   Agrees              a sequence that has the recorded vectors
+--
+-- Main statements
+--   horner-none         Horner's rule gives none exactly if a value on the way is past the limit
 use Rattle.std.specs.Prelude.{ℕ, zero, suc, ◌+◌, ◌*◌, ◌-◌, ◌≤◌, ◌<◌, ◌≡◌, refl, ◌↔◌, ◌⊎◌, Bool, true, false, not, cond, T, leb, take, drop, get_or, ℤ, nat_abs, ◌+ℤ◌, ◌*ℤ◌}
 use Rattle.std.proofs.Common.{arith, subst, inl, inr, ⊎_elim}
 use mathlib.Core.Logic.Iff

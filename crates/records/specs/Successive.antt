@@ -7,6 +7,15 @@
 --   Known                       the sums of the first n are those that a function gives, up to the first at which it gives none
 --   AllKnown                    so they are for each row of a store
 --   stored_sum, stored_tests          the tests at one n, by the sums that stand in the store
+--
+-- Main statements
+--   added_none, added_next, added-stop   one n more
+--   kept-none, kept-both        one change after the other
+--   known_next, left-next       one polynomial more
+--   sum-size                    how large the sum of the first terms is
+--   left_near                   which leaves room for one product more
+--   all-next                    one row more
+--   stored-tests, stored-formed     the tests of the rows are those; where they fit, all sums are formed
 use Prim.Native.Nat.{ℕ, zero, suc, ◌+◌, ◌*◌, ◌-◌, ◌≤◌, ◌<◌, zero-le}
 use Rattle.std.proofs.Common.{mul-le-mul, zero-add, add-one, ◌∙◌, subst, inl, inr, leb→le, le→leb, get_or-set_same, get_or-set_other}
 use Rattle.std.proofs.Math.Decide.{dec_lt, dec_le}
