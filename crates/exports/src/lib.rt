@@ -2,6 +2,8 @@
 // `differential`, `records`, `solutions`, `steps` and `logs`, and the whole batch of `batches`, the fields of whose results are numbers
 // of a lent store. The crates `exported_*` have what each does, this one the sizes as single arguments. No `requires`, and contracts
 // that give the refusal and every lent store by equations (SCOPE 3.51, 9.1, 9.2). C links them from the static library `exports_c`.
+#![tactic(auto)]
+
 ghost use Rattle.std.specs.Prelude.{◌≡◌};
 ghost use Rattle.rules.specs.Elimination.{leading, trailing};
 ghost use Rattle.solutions.specs.AnswerStores.{work_of};
