@@ -38,7 +38,8 @@ use Rattle.rules.specs.Calls.{Call, call_run, after_check, after_run_of, unchang
 use Rattle.theory.specs.Steps.{going-injective, done-injective, going≢done, going≢refused, done≢refused}
 use Rattle.log_steps.specs.Logs.{most_steps, step_length, change_of, changed_if, replayed, with_order, ordered, order_holds_of, the_columns_of}
 use Rattle.log_steps.specs.Logs.{replay, steps_in, log_need}
-use Rattle.log_steps.specs.Changes.{Changed, swapped, combined, raised, lowered, omitted, changed-view, replayed-not-done}
+use Rattle.log_steps.specs.Changes.{Changed, swapped, combined, raised, lowered, omitted, replayed-not-done}
+use Rattle.log_steps.proofs.Changes.{changed-view}
 use Rattle.own_logs.specs.Own.{own_changes}
 use Rattle.logs.specs.OwnRuns.{own-few}
 use Rattle.logs.specs.AcceptedLogs.{AcceptedLog, diagonal-nonzero, output-valid}

@@ -38,7 +38,8 @@ use Rattle.theory.specs.ListedOrder.{Listed}
 use Rattle.theory.specs.Mirror.{span-sum}
 use Rattle.log_steps.specs.Logs.{step_length, replayed, order_holds_of, the_columns_of, with_order, ordered, replay}
 use Rattle.steps.specs.HeldCalls.{pivots_right_of}
-use Rattle.log_steps.specs.Changes.{Replay, replayed-view, replayed-not-done}
+use Rattle.log_steps.specs.Changes.{Replay, replayed-not-done}
+use Rattle.log_steps.proofs.Changes.{replayed-view}
 use Rattle.logs.specs.LogKept.{replay-valid, replay-solutions, replay-length, replay-listed}
 use Rattle.steps.specs.SoundStates.{pivots-right}
 

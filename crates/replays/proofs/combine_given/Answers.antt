@@ -12,7 +12,8 @@ use Rattle.reduction.specs.Progress.{state_of}
 use Rattle.log_steps.specs.Logs.{combining, change_of_kind, changed, combination_right, multiplier_g, multiplier_h}
 use Rattle.replays.specs.Given.{CombinationFormed, combination-formed, combination-given, combination-ungiven, counted-above}
 use Rattle.replays.specs.Given.{length-g, length-h}
-use Rattle.log_steps.specs.StoreChanges.{stepped_same, refused-here, given-changed, given-none}
+use Rattle.log_steps.specs.StoreChanges.{stepped_same, given-changed, given-none}
+use Rattle.log_steps.proofs.StoreChanges.{refused-here}
 use Rattle.replays.proofs.combine_given.Goals as goal
 use Rattle.replays.proofs.combine_given.Goals.{Else-not-combination_formed, Start}
 

@@ -8,7 +8,8 @@ use lib.IntN.{ℤ}
 use Rattle.reduction.specs.Progress.{state_of}
 use Rattle.log_steps.specs.Logs.{exchanging, change_of_kind, changed}
 use Rattle.replays.specs.Given.{exchange_formed_of, exchange-given, exchange-ungiven, exchange-counted}
-use Rattle.log_steps.specs.StoreChanges.{stepped_same, refused-here, given-changed, given-none}
+use Rattle.log_steps.specs.StoreChanges.{stepped_same, given-changed, given-none}
+use Rattle.log_steps.proofs.StoreChanges.{refused-here}
 use Rattle.replays.proofs.exchange_given.Goals as goal
 use Rattle.replays.proofs.exchange_given.Goals.{Else-not-exchange_formed, Start}
 

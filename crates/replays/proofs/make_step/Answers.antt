@@ -10,7 +10,8 @@ use lib.IntN.{ℤ}
 use Rattle.reduction.specs.Progress.{state_of}
 use Rattle.log_steps.specs.Logs.{change_of, change_of_kind, changed_if}
 use Rattle.replays.specs.Given.{counted-passes, counted-fails}
-use Rattle.log_steps.specs.StoreChanges.{Begun, stepped_same, refused-here, given-none}
+use Rattle.log_steps.specs.StoreChanges.{Begun, stepped_same, given-none}
+use Rattle.log_steps.proofs.StoreChanges.{refused-here}
 use Rattle.replays.proofs.make_step.Goals as goal
 use Rattle.replays.proofs.make_step.Goals.{After-place_at-kind, Start}
 

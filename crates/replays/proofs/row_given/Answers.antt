@@ -11,7 +11,8 @@ use lib.IntN.{ℤ}
 use Rattle.reduction.specs.Progress.{state_of}
 use Rattle.log_steps.specs.Logs.{raising, lowering, dropping, change_of_kind, changed}
 use Rattle.replays.specs.Given.{row_formed_of, raise-given, lower-given, drop-given, row-counted, row-ungiven, kind-past}
-use Rattle.log_steps.specs.StoreChanges.{stepped_same, refused-here, given-changed, given-none}
+use Rattle.log_steps.specs.StoreChanges.{stepped_same, given-changed, given-none}
+use Rattle.log_steps.proofs.StoreChanges.{refused-here}
 use Rattle.replays.proofs.row_given.Goals as goal
 use Rattle.replays.proofs.row_given.Goals.{After-place_at-i, Start}
 

@@ -12,8 +12,9 @@ use Rattle.rules.specs.Stores.{row_need}
 use Rattle.reduction.specs.declared.step.Progress.{Progress}
 use Rattle.reduction.specs.Dropping.{dropped}
 use Rattle.log_steps.specs.Logs.{dropping}
-use Rattle.log_steps.specs.StoreChanges.{Begun, begun-few, begun-room, stepped_same, step-refused, absent-dropped, drop-allowed}
-use Rattle.log_steps.specs.StoreChanges.{drop-stepped}
+use Rattle.log_steps.specs.StoreChanges.{Begun, begun-few, begun-room, stepped_same}
+use Rattle.log_steps.proofs.StoreChanges.{step-refused, absent-dropped, drop-allowed}
+use Rattle.log_steps.proofs.StoreChanges.{drop-stepped}
 use Rattle.log_steps.proofs.changing.drop_row.Goals as goal
 use Rattle.log_steps.proofs.changing.drop_row.Goals.{Else-p-i, Start}
 

@@ -8,8 +8,9 @@ use lib.Dec.{ltb, eqb}
 use lib.IntN.{ℤ}
 use Rattle.reduction.specs.declared.step.Progress.{Progress}
 use Rattle.log_steps.specs.Logs.{exchanging}
-use Rattle.log_steps.specs.StoreChanges.{Begun, begun-room, stepped_same, step-refused, exchange-allowed, two-places}
-use Rattle.log_steps.specs.StoreChanges.{exchange-stepped}
+use Rattle.log_steps.specs.StoreChanges.{Begun, begun-room, stepped_same, two-places}
+use Rattle.log_steps.proofs.StoreChanges.{step-refused, exchange-allowed}
+use Rattle.log_steps.proofs.StoreChanges.{exchange-stepped}
 use Rattle.log_steps.proofs.changing.exchange_rows.Goals as goal
 use Rattle.log_steps.proofs.changing.exchange_rows.Goals.{Else-not-two_rows, Start}
 

@@ -18,8 +18,10 @@ use Rattle.reduction.specs.Progress.{answer_of}
 use Rattle.reduction.specs.NewRows.{saved, full-worked}
 use Rattle.reduction.specs.StoreExchange.{numbers_at, length-numbers_at, small-numbers_at}
 use Rattle.log_steps.specs.Logs.{lowering}
-use Rattle.log_steps.specs.StoreChanges.{Begun, begun-few, begun-room, stepped_same, step-refused, absent-lowered, lower-allowed}
-use Rattle.log_steps.specs.StoreChanges.{lowered-storable, lower-stepped}
+use Rattle.log_steps.specs.StoreChanges.{Begun, begun-few, begun-room, stepped_same}
+use Rattle.log_steps.proofs.StoreChanges.{step-refused, absent-lowered, lower-allowed}
+use Rattle.log_steps.specs.StoreChanges.{lowered-storable}
+use Rattle.log_steps.proofs.StoreChanges.{lower-stepped}
 use Rattle.log_steps.proofs.changing.lower_row.Goals as goal
 use Rattle.log_steps.proofs.changing.lower_row.Goals.{After-lowered, Else-p-i, Start}
 

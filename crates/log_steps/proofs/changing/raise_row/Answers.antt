@@ -17,8 +17,9 @@ use Rattle.reduction.specs.NewRows.{saved, shifted-storable, full-worked}
 use Rattle.reduction.specs.StoreExchange.{numbers_at, Loaded, loaded-from, length-numbers_at, small-numbers_at}
 use Rattle.reduction.specs.StepLaws.{shifted_row_of}
 use Rattle.log_steps.specs.Logs.{raising}
-use Rattle.log_steps.specs.StoreChanges.{Begun, begun-few, begun-room, stepped_same, step-refused, absent-raised, raise-allowed}
-use Rattle.log_steps.specs.StoreChanges.{raise-stepped}
+use Rattle.log_steps.specs.StoreChanges.{Begun, begun-few, begun-room, stepped_same}
+use Rattle.log_steps.proofs.StoreChanges.{step-refused, absent-raised, raise-allowed}
+use Rattle.log_steps.proofs.StoreChanges.{raise-stepped}
 use Rattle.log_steps.proofs.changing.raise_row.Goals as goal
 use Rattle.log_steps.proofs.changing.raise_row.Goals.{After-load-row, After-shifted, Else-p-i, Start}
 

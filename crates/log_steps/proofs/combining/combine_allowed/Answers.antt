@@ -27,7 +27,8 @@ use Rattle.reduction.specs.StoreExchange.{numbers_at, length-numbers_at, small-n
 use Rattle.log_steps.specs.Logs.{combine_rows_of}
 use Rattle.log_steps.specs.Divisions.{divided-storable}
 use Rattle.log_steps.specs.StoreChanges.{Begun, begun-few, begun-room, Stepped, stepped_same}
-use Rattle.log_steps.specs.StoreCombinations.{new_row, combine-many, combine-stepped}
+use Rattle.log_steps.specs.StoreCombinations.{new_row}
+use Rattle.log_steps.proofs.StoreCombinations.{combine-many, combine-stepped}
 use Rattle.log_steps.proofs.combining.combine_allowed.Goals as goal
 use Rattle.log_steps.proofs.combining.combine_allowed.Goals.{After-list_roots, After-struct_known-2-1, Start}
 

@@ -22,9 +22,11 @@ use Rattle.reduction.specs.NewRows.{full-worked}
 use Rattle.reduction.specs.StoreExchange.{numbers_at, length-numbers_at, small-numbers_at}
 use Rattle.log_steps.specs.Logs.{combining, allowed, divides_all}
 use Rattle.log_steps.specs.Divisions.{combined, divided-storable}
-use Rattle.log_steps.specs.StoreChanges.{Begun, begun-few, begun-room, two-places, stepped_same, step-refused, combining-changed}
-use Rattle.log_steps.specs.StoreCombinations.{new_row, judged_row, judged-exact, exact-judged, inexact-judged, absent-combined}
-use Rattle.log_steps.specs.StoreCombinations.{combine-allowed}
+use Rattle.log_steps.specs.StoreChanges.{Begun, begun-few, begun-room, two-places, stepped_same, combining-changed}
+use Rattle.log_steps.proofs.StoreChanges.{step-refused}
+use Rattle.log_steps.specs.StoreCombinations.{new_row, judged_row, judged-exact, exact-judged, inexact-judged}
+use Rattle.log_steps.proofs.StoreCombinations.{absent-combined}
+use Rattle.log_steps.proofs.StoreCombinations.{combine-allowed}
 use Rattle.log_steps.proofs.combining.combine_rows.Goals as goal
 use Rattle.log_steps.proofs.combining.combine_rows.Goals.{After-divided_row-worked, Else-not-two_rows, Else-worked-eq13, Start}
 
