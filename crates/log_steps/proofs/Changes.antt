@@ -1,10 +1,7 @@
 -- What a step of a log that goes on has done.
 --
 -- Main statements
---   divides_all-all, counted-positive   what the tests of divisibility and of a counted number say
---   change-right         what is read from 36 numbers is well formed
 --   changed-view, replayed-view   a step that goes on is a change, and so are the steps of a log
---   replayed-not-done    the steps alone end nothing
 use Prim.Native.Nat.{ℕ}
 use Rattle.std.specs.Prelude.{◌≡◌, ◌≢◌, ◌&&◌, not, List, [], ◌∷◌, ◌++◌, T, leb, ltb, eqb, length, ℤ}
 use Rattle.std.proofs.Math.Path.{refl, subst}

@@ -1,14 +1,10 @@
 -- What a step of a log gives on the lent stores.
 --
 -- Main statements
---   begun-few, begun-room      a row's place is small, and it has room in the store
---   stepped_same               equal stores, answers and outcomes
 --   step-refused               a step whose condition fails
---   two-places, two-rows-at, exchange-allowed, exchange-stepped   the exchange
---   raise-allowed, raise-stepped, lower-allowed, lowered-storable, lower-stepped   the shifts
+--   two-rows-at, exchange-allowed, exchange-stepped   the exchange
+--   raise-allowed, raise-stepped, lower-allowed, lower-stepped   the shifts
 --   drop-allowed, drop-stepped the drop of a row
---   given-changed, given-none  a step that is well formed, and one that is not
---   combining-changed, positive-size   a combination whose condition holds, and its integer
 use Prim.Native.Nat.{ℕ, ◌-◌, ◌≤◌, ◌<◌}
 use Rattle.std.proofs.Math.Nat.{le_refl}
 use Rattle.std.proofs.Common.{add-one, arith, sym, ◌∙◌}

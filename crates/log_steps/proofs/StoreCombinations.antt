@@ -1,8 +1,6 @@
 -- What the combination of a log's step gives on the lent stores.
 --
 -- Main statements
---   judged-exact, judged-inexact, quotient-exact, quotient-inexact   the two cases
---   exact-judged, inexact-judged   the refusal tells whether the integer divides every coefficient
 --   absent-combined, combine-allowed   the condition, where a row is not present, and where both are
 --   combine-many               too many relations
 --   combine-stepped            the new row, after the relations have been listed

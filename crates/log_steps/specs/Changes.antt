@@ -4,6 +4,11 @@
 --   Changed D s s'       s' is the state after a step of a log from s
 --   Replay D s s'        steps of a log lead from s to s'
 --   Formed c             the multipliers and the integer of a combination are as a log may have them
+--
+-- Main statements
+--   divides_all-all, counted-positive   what the tests of divisibility and of a counted number say
+--   change-right         what is read from 36 numbers is well formed
+--   replayed-not-done    the steps alone end nothing
 use Prim.Native.Nat.{ℕ, zero, suc, ◌≤◌, ◌<◌}
 use Rattle.std.specs.Prelude.{◌≡◌, ◌≢◌, Bool, true, false, ◌&&◌, not, cond, List, [], ◌∷◌, ◌++◌, T, leb, length, get_or, drop, ℤ, pos, negsuc, nat_abs}
 use Rattle.std.proofs.Math.Path.{refl, subst}

@@ -3,6 +3,14 @@
 -- Main definitions
 --   Begun rows p               what a step asks of the row store and of the progress: no row is settled
 --   Stepped rows .. p o x      what a step gives: its outcome is x, it ends nothing, and no row is settled
+--
+-- Main statements
+--   begun-few, begun-room      a row's place is small, and it has room in the store
+--   stepped_same               equal stores, answers and outcomes
+--   two-places                 two rows at their places, for the exchange
+--   lowered-storable           a row whose blocks go up has room in the store
+--   given-changed, given-none  a step that is well formed, and one that is not
+--   combining-changed, positive-size   a combination whose condition holds, and its integer
 use Prim.Native.Nat.{ℕ, zero, suc, ◌+◌, ◌*◌, ◌-◌, ◌≤◌, ◌<◌}
 use Rattle.std.proofs.Math.Nat.{le_refl}
 use Rattle.std.proofs.Common.{zero-lt-suc, arith, sym, subst, subst₂, ltb→lt}

@@ -4,6 +4,10 @@
 --   new_row d g h target pivot   the new row with its limits, from the numbers of both rows
 --   judged_row d g h target pivot   the new row, or 13 where the integer does not divide every coefficient
 --   quotient_of d row            a row divided by the integer with its limit, or 13
+--
+-- Main statements
+--   judged-exact, judged-inexact, quotient-exact, quotient-inexact   the two cases
+--   exact-judged, inexact-judged   the refusal tells whether the integer divides every coefficient
 use Rattle.std.specs.Prelude.{ℕ, ◌≡◌, ◌≢◌, Bool, List, ℤ}
 use Rattle.std.proofs.Common.{arith, ◌∙◌}
 use Rattle.std.proofs.Math.Path.{refl, sym, ap}
