@@ -86,7 +86,7 @@ extern "C" {
 
 /* Bytes of stack that a call takes at most, and those of `wurgalm_batch`. A thread needs some more for itself. */
 #define WURGALM_STACK 65536
-#define WURGALM_BATCH_STACK 176128
+#define WURGALM_BATCH_STACK 172032
 
 /* Where the 16 coefficients of the right side begin in a row; in a relation, one place later. */
 #define WURGALM_RIGHT_SIDE 320

@@ -542,7 +542,9 @@ fn divided(row: WorkingRow, d: i64) -> Worked
 
 // The row g × target + h × pivot divided by its content (SCOPE 2.41, 2.42). A degree past 15 is refused with 7; if there is none, a
 // coefficient past ±C with 8; a row whose left part alone is zero with 10 (SCOPE 2.43, 2.44, 2.46). The division does not change a
-// degree, so the degrees are looked at first.
+// degree, so the degrees are looked at first. Not compiled in line: its rows would take stack below the search for roots, which is the
+// deepest call.
+#[inline(never)]
 pub fn combined(g: &[i64], h: &[i64], target: WorkingRow, pivot: &[i64], width: usize) -> Worked
     requires { RowsFit g.now h.now target pivot.now width }
     ensures refusal_value { result.refusal ≡ refusal_of (consistent (limit_degrees (primitive (combine g.now h.now

@@ -1,3 +1,3 @@
 #![tactic(auto)]
 
-// Definitions and laws alone: see specs/, from Demands.antt on. There is no code here.
+// Definitions and laws alone: see proofs/Demands.antt first, and specs/ for the words that it uses. There is no code here.
