@@ -16,7 +16,7 @@
 --   call-unread, call-refused, call-written  the whole call, by what the three calls on stores gave
 --   call-checked-read, call-checked-run      what was read, and what an accepting run leaves, passes the checks of the next call
 use Rattle.std.specs.Prelude.{ℕ, zero, suc, min, ◌≤◌, ◌<◌, ◌≡◌, ◌≢◌, ◌⊎◌, Bool, true, false, not, T, leb, eqb, take, drop, get_or}
-use Rattle.std.proofs.Common.{suc-le-suc, ◌∙◌, inl, inr, ⊎_elim, le-leb, leb→le, le→leb, eqb→eq, take-append-drop, take_at, length-take-le}
+use Rattle.std.proofs.Common.{Result, Ok, Err, suc-le-suc, ◌∙◌, inl, inr, ⊎_elim, le-leb, leb→le, le→leb, eqb→eq, take-append-drop, take_at, length-take-le}
 use Rattle.std.proofs.Math.Nat.{suc_inj, suc-ne-zero}
 use native.Mathlib.Omega.{arith}
 use Rattle.std.proofs.Math.Path.{refl, sym, ap, ap₂, subst}
@@ -49,6 +49,8 @@ use Rattle.sheets.specs.WrittenOrder.{OrderRight, different-cons}
 use Rattle.sheets.specs.ReadBack.{SheetRight, read-valid, sheet-read-written}
 use Rattle.sheets.specs.CallsReadBack.{read-call-write, read-write-call}
 use Rattle.runs.specs.Unreported.{UnreportedCall, unreported_in, unreported_call}
+use Rattle.refusals.specs.declared.Refusal.{Refusal}
+use Rattle.refusals.specs.Refusals.{number_of}
 use Rattle.answers.specs.declared.AnswerResult as declared
 use Rattle.answers.specs.Faults.{Numbered, read, numbered, sheet-numbered}
 
@@ -62,6 +64,11 @@ pub record AnswerCall : Type 0 where
 -- What the call returned, with the store as it left it.
 unfoldable pub call_of : declared.AnswerResult → List ℕ → AnswerCall
 call_of r store = record { refusal = r.refusal; length = r.length; store = store }
+
+-- The same of a length or a refusal.
+abbrev pub call_in : Result ℕ Refusal → List ℕ → AnswerCall
+call_in (Ok n) store = record { refusal = 0; length = n; store = store }
+call_in (Err r) store = record { refusal = number_of r; length = 0; store = store }
 
 -- A refusal has its number and the length 0, and the lent store is unchanged (SCOPE 5.31).
 unfoldable pub unanswered : ℕ → List ℕ → AnswerCall

@@ -9,10 +9,11 @@ ghost use Rattle.rules.specs.Stores.{with_equations_of, largest_rows, relation_n
 ghost use Rattle.rules.specs.Calls.{zeros};
 ghost use Rattle.rules.specs.Batch.{most_bytes};
 ghost use Rattle.stores.specs.Validity.{the_sizes_of};
-ghost use Rattle.answers.specs.Answers.{call_of, answer_call};
+ghost use Rattle.answers.specs.Answers.{call_of, call_in, answer_call};
 ghost use Rattle.answers.specs.ClearedRecords.{ZeroBetween};
 
 use polynomials::lengths::COEFFICIENTS;
+use refusals::Refusal;
 use stores::lengths::{BLOCK, RELATION, ROW};
 use stores::validity::Sizes;
 
@@ -57,39 +58,31 @@ fn clear_records(store: &mut [i64], size: usize, used: usize, count: usize)
     requires size_in_bounds { (count * size ≤ length store.old) × ZeroBetween size used count store.old }
     ensures { store.new ≡ paste store.old 0 (replicate (count * size) (pos 0)) (count * size) }
 {
-    let mut i = 0;
-    while i < count {
+    for i in 0..count {
         let at = i * size;
         stores::rows::clear(store, at, used);
         let side = at + (size - COEFFICIENTS);
         stores::rows::clear(store, side, COEFFICIENTS);
-        i += 1;
     }
 }
 
 // The answer, worked out in stores of the largest sizes that are zero, and are zero again afterwards: only what was used is cleared.
 // What was read passes the checks of a run, and what a run that accepts leaves passes those of the writer, so neither checks again. A
 // run leaves the relations that it was given as they are (SCOPE 2.3), so their lines are copied from the sheet.
-pub fn answer_in(
+fn worked_out(
     bytes: &[u8],
     rows: &mut [i64],
     relations: &mut [i64],
     output: &mut [u8],
-) -> AnswerResult
+) -> Result<usize, Refusal>
     requires { (rows.old ≡ zeros largest_rows) × (relations.old ≡ zeros relation_need) }
-    ensures output_after { call_of result output.new ≡ answer_call bytes.now output.old }
+    ensures output_after { call_in result output.new ≡ answer_call bytes.now output.old }
     ensures rows_unchanged { (rows.new ≡ rows.old) × (relations.new ≡ relations.old) }
 {
-    let own = reading::own::read_own(bytes, rows, relations);
+    let own = reading::own::read_own(bytes, rows, relations)?;
     let sheet = own.sheet;
-    if sheet.refusal != 0 {
-        return no_answer(sheet.refusal);
-    }
     let sizes = sheet.sizes;
-    let run = runs::leading_run(rows, relations, sizes, sheet.relations);
-    if run.refusal != 0 {
-        return no_answer(run.refusal);
-    }
+    let run = runs::leading_run(rows, relations, sizes, sheet.relations)?;
     let order = run.order;
     let kept = with_equations(sizes, run.rank);
     let lent = lent_bytes(output.len());
@@ -108,8 +101,22 @@ pub fn answer_in(
     let blocks = (stores::validity::span(kept) + 1) * BLOCK;
     clear_records(rows, ROW, blocks, run.rank);
     clear_records(relations, RELATION, 1 + blocks, run.relations);
-    AnswerResult {
-        refusal: written.refusal,
-        length: written.length,
+    written
+}
+
+// The answer as it is told: a refusal by its number, with the length 0.
+pub fn answer_in(
+    bytes: &[u8],
+    rows: &mut [i64],
+    relations: &mut [i64],
+    output: &mut [u8],
+) -> AnswerResult
+    requires { (rows.old ≡ zeros largest_rows) × (relations.old ≡ zeros relation_need) }
+    ensures output_after { call_of result output.new ≡ answer_call bytes.now output.old }
+    ensures rows_unchanged { (rows.new ≡ rows.old) × (relations.new ≡ relations.old) }
+{
+    match worked_out(bytes, rows, relations, output) {
+        Ok(length) => AnswerResult { refusal: 0, length },
+        Err(refusal) => no_answer(refusal.number()),
     }
 }

@@ -4,15 +4,19 @@
 --   Placed n k r w s s'       the test whether w is within ±C; if it is, it is row k of the store afterwards
 --   listed_below n ps f        the list of the free columns below f
 --   Written n ps f count s    that list stands in the store
+--   count_in r               how many sequences a result tells
 --   Stepped n ps f ..         what one column more reports
 -- Main statements
 --   row-begun, row-placed     a row of the store begins as the unit vector, and holds the sequence afterwards
 --   written_none, written-past, written_next   the list before the first column, and with one column more
 --   written-zeros             the rows behind the list are 0
---   listing-refused, listing-stopped, listing-goes-on, listing-reported   what a column reports, and what is reported of it and at the end
+--   listing-refused, listing-stopped, listing-goes-on, listing-reported, listing-told   what a column reports, and what is reported of it and at the end
 use Prim.Native.Nat.{ℕ, zero, suc, ◌+◌, ◌*◌, ◌-◌, ◌≤◌, ◌<◌}
 use Rattle.std.specs.Prelude.{◌≡◌, refl, ◌≢◌, ◌⊎◌, Bool, true, false, cond, length, take, drop, set, ℤ, pos}
-use Rattle.std.proofs.Common.{sym, ◌∙◌, subst, ⊎_elim, zero-add, le-add_right, arith, take-append-drop, take_all, take_at, drop_at, drop-set-lt}
+use Rattle.std.specs.Prelude.{Result}
+use Rattle.refusals.specs.declared.Refusal.{Refusal}
+use Rattle.refusals.specs.Refusals.{number_of, refusal_in, number-nonzero}
+use Rattle.std.proofs.Common.{Ok, Err, sym, ◌∙◌, subst, ⊎_elim, zero-add, le-add_right, arith, take-append-drop, take_all, take_at, drop_at, drop-set-lt}
 use Rattle.std.proofs.Math.Path.{ap, ap₂}
 use mathlib.Core.List.{List, [], ◌∷◌, ◌++◌, map, flatten, append-nil, append_assoc, map-append}
 use borrow.Rule.Slice.PartMut.{put_mid, Post-is}
@@ -35,7 +39,8 @@ use Rattle.sides.specs.Lent.{Kept}
 use Rattle.constant_rows.specs.Constants.{Judged, fine, passed, each, and_on}
 use Rattle.echelon.specs.Eliminated.{Pivot, limited}
 use Rattle.back_substitution.specs.Listed.{is_free_of, unit, vector_at, free_columns, sequences, list_store_of}
-use Rattle.constant_rows.specs.Matrices.{Reports}
+use Rattle.constant_rows.specs.Matrices.{Reports, Told}
+use Rattle.constant_rows.specs.ConstantStores.{told-of}
 use Rattle.constant_rows.specs.ListLengths.{list_columns, list_need}
 use Rattle.back_substitution.specs.BackSubstitution.{Filled}
 
@@ -54,6 +59,11 @@ pub record Written (n : ℕ) (ps : List Pivot) (f count : ℕ) (store : List ℤ
   pub size : count ≡ length list
   pub few : count ≤ f
   pub front : take list_need store ≡ list_store_of list
+
+-- How many sequences a result tells.
+abbrev pub count_in : Result ℕ Refusal → ℕ
+count_in (Ok count) = count
+count_in (Err r) = 0
 
 -- Either the list with one column more stands in the store, or it is refused with 8.
 abbrev pub Stepped : ℕ → List Pivot → ℕ → ℕ → ℕ → List ℤ → Type 0
@@ -346,7 +356,27 @@ unfolding Reports
 listing-stopped P n ps f refusal count store e s =
     ⊎_elim (λ h. absurd (e h.0)) (λ h. subst (λ j. Reports P j refusal) (sym h.1) h.0) s
 
+-- The same by the result of the column.
+pub listing-passed : (n : ℕ) (ps : List Pivot) (f : ℕ) (result : Result ℕ Refusal) (r : Refusal) (store : List ℤ) → result ≡ Err r
+    → Stepped n ps f (refusal_in result) (count_in result) store → sequences n ps ≡ passed (number_of r)
+listing-passed n ps f result r store e s =
+    let told : refusal_in result ≡ number_of r = ap refusal_in e in
+    ⊎_elim (λ h. absurd (number-nonzero r (sym told ∙ h.0))) (λ h. h.1 ∙ ap passed (sym h.0 ∙ told)) s
+
 -- What is known where it was not.
 pub listing-goes-on : (n : ℕ) (ps : List Pivot) (f refusal count : ℕ) (store : List ℤ) → refusal ≡ 0 → Stepped n ps f refusal count store
     → Written n ps (f + 1) count store
 listing-goes-on n ps f refusal count store e s = ⊎_elim (λ h. h.1) (λ h. absurd (omega (arith, h.0))) s
+
+-- What is told at the end.
+pub listing-told : (n : ℕ) (ps : List Pivot) (f count : ℕ) (store store' : List ℤ) → Written n ps f count store' → n ≡ f
+    → Kept list_need store store'
+    → Told (λ count l. (count ≡ length l) × (store' ≡ overwrite (list_store_of l) store)) (sequences n ps) (Ok count)
+unfolding sequences free_columns listed_below overwrite
+listing-told n ps f count store store' w e k =
+    told-of (λ count l. (count ≡ length l) × (store' ≡ overwrite (list_store_of l) store)) (sequences n ps) count w.list
+    (ap (listed_below n ps) e ∙ w.below) (
+      w.size,
+      sym (take-append-drop list_need store') ∙ ap₂ ◌++◌ w.front
+          (k.same_rest ∙ ap (λ i. drop i store) (sym (length-store w.list))),
+    )

@@ -10,17 +10,19 @@ ghost use Rattle.lists.specs.Overwritten.{overwrite};
 ghost use Rattle.lists.specs.Tests.{every};
 ghost use Rattle.rules.specs.Calls.{zeros};
 ghost use Rattle.rules.specs.Limits.{bound, small};
+ghost use Rattle.refusals.specs.Refusals.{refusal_in};
 ghost use Rattle.sides.specs.Lent.{Kept};
 ghost use Rattle.echelon.specs.KernelKept.{Echelon};
 ghost use Rattle.back_substitution.specs.Listed as Listed;
 ghost use Rattle.echelon.specs.MatrixTurns.{pivots_in};
-ghost use Rattle.constant_rows.specs.Matrices.{Reports};
+ghost use Rattle.constant_rows.specs.Matrices.{Told};
 ghost use Rattle.constant_rows.specs.ListLengths.{list_columns, list_need, matrix_need};
 ghost use Rattle.back_substitution.specs.Listed.{list_store_of};
 ghost use Rattle.back_substitution.specs.BackSubstitution.{pivot_at, Settled, FreeColumn, MetBelow, Filled};
-ghost use Rattle.back_substitution.specs.ListRows.{Placed, Written, Stepped};
+ghost use Rattle.back_substitution.specs.ListRows.{Placed, Written, Stepped, count_in};
 
 use constant_rows::lengths::LIST_COLUMNS;
+use refusals::Refusal;
 
 // The sum of the products of a row's entries with the numbers of a vector: at most 64 C², so it fits (SCOPE 14.52).
 fn row_sum(row: &[i64], v: &[i64]) -> i64
@@ -30,10 +32,8 @@ fn row_sum(row: &[i64], v: &[i64]) -> i64
     ensures result_bound { nat_abs result ≤ list_columns * (bound * bound) }
 {
     let mut sum = 0;
-    let mut i = 0;
-    while i < row.len() {
-        sum += row[i] * v[i];
-        i += 1;
+    for (i, a) in row.iter().enumerate() {
+        sum += *a * v[i];
     }
     sum
 }
@@ -42,12 +42,10 @@ fn row_sum(row: &[i64], v: &[i64]) -> i64
 fn is_free(columns: &[usize], column: usize) -> bool
     ensures { result ≡ every (λ c. not (eqb c column)) columns.now }
 {
-    let mut i = 0;
-    while i < columns.len() {
-        if columns[i] == column {
+    for c in columns {
+        if *c == column {
             return false;
         }
-        i += 1;
     }
     true
 }
@@ -57,10 +55,8 @@ fn multiply(v: &mut [i64], times: i64)
     requires { T (every small v.old) × (nat_abs times ≤ bound) }
     ensures { v.new ≡ Polynomials.scale times v.old }
 {
-    let mut i = 0;
-    while i < v.len() {
-        v[i] = times * v[i];
-        i += 1;
+    for a in v.iter_mut() {
+        *a = times * *a;
     }
 }
 
@@ -123,15 +119,12 @@ fn rows_meeting(matrix: &[i64], count: usize, f: usize) -> usize
     requires { (count * list_columns ≤ length matrix.now) × (f < list_columns) }
     ensures { MetBelow matrix.now f count result }
 {
-    let mut i = count;
-    while 0 < i {
-        let last = i - 1;
-        if matrix[last * LIST_COLUMNS + f] != 0 {
-            return i;
+    for i in (0..count).rev() {
+        if matrix[i * LIST_COLUMNS + f] != 0 {
+            return i + 1;
         }
-        i = last;
     }
-    i
+    0
 }
 
 // Back through the settled rows, from the last that meets the column; a value past ±C on the way leads to one past ±C at the end
@@ -141,9 +134,8 @@ fn substitute_all(matrix: &[i64], n: usize, columns: &[usize], f: usize, v: &mut
     requires free_column { FreeColumn n (pivots_in n columns.now matrix.now) f }
     ensures { Filled result (Listed.vector_at n (pivots_in n columns.now matrix.now) f) v.new }
 {
-    let mut i = rows_meeting(matrix, columns.len(), f);
-    while 0 < i {
-        i -= 1;
+    let met = rows_meeting(matrix, columns.len(), f);
+    for i in (0..met).rev() {
         let from = i * LIST_COLUMNS;
         let to = from + n;
         if !substituted(&matrix[from..to], columns[i], v) {
@@ -174,14 +166,8 @@ fn list_at(
     substitute_all(matrix, n, columns, f, &mut list[from..to])
 }
 
-// What the listing reports: 0 and the number of the sequences, or the limit that is passed.
-#[derive(Drop)]
-pub struct ListedCount {
-    pub refusal: u8,
-    pub count: usize,
-}
-
-// One column more: with a pivot it is passed over, without one its sequence is listed or refused with 8 (SCOPE 14.51, 14.53).
+// One column more: with a pivot it is passed over, without one its sequence is listed or refused. How many are listed then (SCOPE 14.51,
+// 14.53)?
 fn list_column(
     matrix: &[i64],
     n: usize,
@@ -189,56 +175,44 @@ fn list_column(
     f: usize,
     list: &mut [i64],
     count: usize,
-) -> ListedCount
+) -> Result<usize, Refusal>
     requires n_le_list_columns { (n ≤ list_columns) × (f < n) × (length columns.now * list_columns ≤ length matrix.now)
         × (list_need ≤ length list.old) }
     requires settled { Settled n (pivots_in n columns.now matrix.now) }
     requires written { Written n (pivots_in n columns.now matrix.now) f count list.old }
-    ensures stepped { Stepped n (pivots_in n columns.now matrix.now) f result.refusal result.count list.new }
+    ensures stepped { Stepped n (pivots_in n columns.now matrix.now) f (refusal_in result) (count_in result) list.new }
     ensures kept { Kept list_need list.old list.new }
 {
     if !is_free(columns, f) {
-        return ListedCount { refusal: 0, count };
+        return Ok(count);
     }
     if !list_at(matrix, n, columns, f, list, count) {
-        return ListedCount {
-            refusal: 8,
-            count: 0,
-        };
+        return Err(Refusal::CoefficientPassed);
     }
-    ListedCount {
-        refusal: 0,
-        count: count + 1,
-    }
+    Ok(count + 1)
 }
 
-// The list in its store, one sequence a row, in the order of the columns (SCOPE 14.51, 14.53, 14.63).
+// The list in its store, one sequence a row, in the order of the columns. How many are there (SCOPE 14.51, 14.53, 14.63)?
 pub fn list_sequences(
     matrix: &[i64],
     n: usize,
     settled: usize,
     columns: [usize; LIST_COLUMNS],
     list: &mut [i64],
-) -> ListedCount
+) -> Result<usize, Refusal>
     requires n_le_list_columns { (n ≤ list_columns) × (settled ≤ n) × (matrix_need ≤ length matrix.now) × (length columns ≡ list_columns) }
     requires echelon { Echelon n (pivots_in n (take settled columns) matrix.now)
         × All (λ p. T (every small p.numbers) × (p.column < n)) (pivots_in n (take settled columns) matrix.now) }
     requires list_need_in_bounds { (list_need ≤ length list.old) × (take list_need list.old ≡ zeros list_need) }
-    ensures reports { Reports (λ l. (result.count ≡ length l) × (list.new ≡ overwrite (list_store_of l) list.old))
-        (Listed.sequences n (pivots_in n (take settled columns) matrix.now)) result.refusal }
+    ensures reports { Told (λ count l. (count ≡ length l) × (list.new ≡ overwrite (list_store_of l) list.old))
+        (Listed.sequences n (pivots_in n (take settled columns) matrix.now)) result }
     ensures kept { Kept list_need list.old list.new }
 {
     let all = &columns[..];
     let used = &all[..settled];
     let mut count = 0;
-    let mut f = 0;
-    while f < n {
-        let step = list_column(matrix, n, used, f, list, count);
-        if step.refusal != 0 {
-            return step;
-        }
-        count = step.count;
-        f += 1;
+    for f in 0..n {
+        count = list_column(matrix, n, used, f, list, count)?;
     }
-    ListedCount { refusal: 0, count }
+    Ok(count)
 }

@@ -150,6 +150,7 @@ pub(crate) fn sheets(
     let mut b = batch;
     let mut at = 0;
     let mut out = 0;
+    // No count: the sheets go on as far as the answers fit.
     loop {
         let t = next_turn(b, &bytes[at..], &mut output[out..], rows, relations);
         let fed = t.fed;

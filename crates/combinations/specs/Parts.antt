@@ -3,10 +3,13 @@
 -- Main definitions
 --   sum_of g h p q       g·p + h·q
 --   PartFits, PartsFit  what is asked where a polynomial, or the polynomials of a list, are combined
---   Known, SumsSaved, PartMade, PartsMade   what is known once numbers, sums, a polynomial, or those of a list have been made
+--   known_of l k         what is known of the numbers l and of those before them, of which k is known
+--   SumsSaved, PartMade, PartsMade   what is known once sums, a polynomial, or those of a list have been made
 --   PartsBegun          the first e polynomials of a list have degrees up to 15 and are combined
 --
 -- Main statements
+--   some-passed, none-failed   a value or none tells whether the test passed that it hangs on
+--   known-twice         numbers, and then others
 --   zero-made           where both polynomials are zero, their combination is what stands there already
 --   beyond-made, whole-made   a combination of shortened polynomials, past degree 15 or not
 --   front_fits, sums-made     that of polynomials of few coefficients: behind the sums there are zeros
@@ -14,8 +17,8 @@
 --   part-is, part-fits   the next polynomial is as it was and fits
 --   part-zero           a polynomial past the place from which on a list is zero
 --   shortened-made      polynomials that are combined by shortened multipliers
-use Rattle.std.specs.Prelude.{◌≡◌, refl, Bool, true, false, not, ◌&&◌, cond, T, ℤ, pos, length, take, drop, get_or, replicate}
-use Rattle.std.proofs.Common.{sym, ◌∙◌, ap₂, subst, true≢false, le_of_eq, arith, length-drop, take-append-drop, drop_of_length-le, take_all, take-add, take_at, drop-drop, length-take-le}
+use Rattle.std.specs.Prelude.{◌≡◌, refl, Bool, true, false, not, ◌&&◌, cond, T, ℤ, pos, length, take, drop, get_or, replicate, Option}
+use Rattle.std.proofs.Common.{Some, None, sym, ◌∙◌, ap₂, subst, true≢false, le_of_eq, arith, length-drop, take-append-drop, drop_of_length-le, take_all, take-add, take_at, drop-drop, length-take-le}
 use Rattle.std.proofs.Math.Path.{ap}
 use Rattle.std.proofs.Math.Bool.{and_assoc, and-true}
 use mathlib.Core.List.{List, [], ◌∷◌, ◌++◌, map, flatten, append_assoc, append-nil}
@@ -33,7 +36,7 @@ use Rattle.algebra.specs.Coefficients.{coeff-drop, coeff-past-length}
 use Rattle.rules.specs.Limits.{small, coefficient_count}
 use Rattle.rules.specs.Layout.{coefficients_at_of}
 use Rattle.working_rows.specs.Shifting.{over_front, over-behind}
-use Rattle.combinations.specs.declared.Made.{Made}
+use Rattle.combinations.specs.declared.Known.{Known}
 use Rattle.combinations.specs.Primitive.{is_low, content-take}
 use Rattle.combinations.specs.Combination.{few, both_within_of, Counted, Shortened, shortened-front, shortened-fits, combined-same}
 use Rattle.combinations.specs.Combination.{past-highest, high-free, high_zero, high_same}
@@ -49,23 +52,19 @@ abbrev pub PartFits : Polynomial → Polynomial → List ℤ → List ℤ → Ty
 PartFits g h p q =
     ((length p ≡ coefficient_count) × (length q ≡ coefficient_count)) × (T (every small p) × T (every small q) × Counted g × Counted h)
 
--- The numbers p are made; those before them have the content d, and t says whether they are within ±C.
-pub record Known (p : List ℤ) (d : ℕ) (t : Bool) (r : Made) : Type 0 where
-  pub low : r.beyond ≡ false
-  pub content-is : r.content ≡ gcd (content p) d
-  pub within-is : r.within ≡ (t && every small p)
+-- What is known of the numbers l and of those before them.
+abbrev pub known_of : List ℤ → Known → Known
+known_of l before = record { content = gcd (content l) before.content; within = before.within && every small l }
 
 -- The sums s stand at the front of a place.
-pub record SumsSaved (s : List ℤ) (d : ℕ) (t : Bool) (before after : List ℤ) (r : Made) : Type 0 where
-  pub store : after ≡ paste before 0 s (length s)
-  pub known : Known s d t r
+pub record SumsSaved (s : List ℤ) (before : Known) (place after : List ℤ) (r : Known) : Type 0 where
+  pub store : after ≡ paste place 0 s (length s)
+  pub known : r ≡ known_of s before
 
 -- A polynomial is combined to `sum`, unless its degree is past 15.
-pub record PartMade (sum : Polynomial) (d : ℕ) (t : Bool) (before after : List ℤ) (r : Made) : Type 0 where
-  pub degree : r.beyond ≡ not (is_low sum)
-  pub store : after ≡ cond r.beyond before (low_part_of sum)
-  pub content-is : r.beyond ≡ false → r.content ≡ gcd (content (low_part_of sum)) d
-  pub within-is : r.beyond ≡ false → r.within ≡ (t && every small (low_part_of sum))
+pub record PartMade (sum : Polynomial) (before : Known) (place after : List ℤ) (r : Option Known) : Type 0 where
+  pub value : r ≡ cond (is_low sum) (Some (known_of (low_part_of sum) before)) None
+  pub store : after ≡ cond (is_low sum) (low_part_of sum) place
 
 -- What is asked where the polynomials of two lists are combined: behind the first `count` there are zeros only.
 pub record PartsFit (count : ℕ) (g h : Polynomial) (target pivot : List ℤ) : Type 0 where
@@ -79,11 +78,26 @@ pub record PartsFit (count : ℕ) (g h : Polynomial) (target pivot : List ℤ) :
   pub pivot-rest : T (is_zero_of (drop (count * coefficient_count) pivot))
 
 -- The polynomials of a list are combined to ps, unless the degree of one is past 15.
-pub record PartsMade (ps : List Polynomial) (d : ℕ) (t : Bool) (after : List ℤ) (r : Made) : Type 0 where
-  pub degrees : r.beyond ≡ not (every is_low ps)
-  pub store : r.beyond ≡ false → after ≡ flatten (map low_part_of ps)
-  pub content-is : r.beyond ≡ false → r.content ≡ gcd (content (flatten (map low_part_of ps))) d
-  pub within-is : r.beyond ≡ false → r.within ≡ (t && every small (flatten (map low_part_of ps)))
+pub record PartsMade (ps : List Polynomial) (before : Known) (after : List ℤ) (r : Option Known) : Type 0 where
+  pub value : r ≡ cond (every is_low ps) (Some (known_of (flatten (map low_part_of ps)) before)) None
+  pub store : every is_low ps ≡ true → after ≡ flatten (map low_part_of ps)
+
+-- A value tells that the test passed that it hangs on, and none that it failed.
+pub some-passed : {A : Type 0} (t : Bool) {a x : A} → Some a ≡ cond t (Some x) None → (t ≡ true) × (a ≡ x)
+some-passed true e = (refl, cc)
+some-passed {A} false {a} {x} e = let impossible : ◌≡◌ {A = ℕ} 0 1 = cc in absurd (omega arith)
+
+pub none-failed : {A : Type 0} (t : Bool) (x : A) → None ≡ cond t (Some x) None → t ≡ false
+none-failed {A} true x e = let impossible : ◌≡◌ {A = ℕ} 0 1 = cc in absurd (omega arith)
+none-failed false x e = refl
+
+-- Numbers, and then others.
+pub known-twice : (a b : List ℤ) (before : Known) → known_of b (known_of a before) ≡ known_of (a ++ b) before
+known-twice a b before =
+    ap₂ (λ c w. record { content = c; within = w })
+    (sym (gcd-assoc (content b) (content a) before.content)
+    ∙ ap (λ m. gcd m before.content) (gcd-comm (content b) (content a) ∙ sym (content-append a b)))
+    (and_assoc before.within (every small a) (every small b) ∙ ap (λ u. before.within && u) (sym (every_append small a b)))
 
 -- ---- zeros at the end
 
@@ -120,13 +134,10 @@ module _ (g h p q : Polynomial) (fits : PartFits g h p q) where
   abbrev sum : Polynomial
   sum = sum_of g h p q
 
-  pub zero-made : (is_zero_of p && is_zero_of q) ≡ true → (d : ℕ) (t : Bool)
-      → PartMade sum d t p p (record { beyond = false; content = d; within = t })
-  zero-made z d t = record {
-    degree = ap not (sym high);
-    store = sym low;
-    content-is = λ e. sym (ap (λ m. gcd m d) none ∙ zero-gcd d);
-    within-is = λ e. sym (ap (λ u. t && u) (ap (every small) low ∙ true_of _ fits.1.0) ∙ and-true t);
+  pub zero-made : (is_zero_of p && is_zero_of q) ≡ true → (before : Known) → PartMade sum before p p (Some before)
+  zero-made z before = record {
+    value = sym (ap (λ t. cond t (Some (known_of (low_part_of sum) before)) None) high ∙ ap Some same);
+    store = sym (ap (λ t. cond t (low_part_of sum) p) high ∙ low);
   }
     where
       both : T (is_zero_of p) × T (is_zero_of q)
@@ -143,6 +154,11 @@ module _ (g h p q : Polynomial) (fits : PartFits g h p q) where
 
       low : low_part_of sum ≡ p
       low = same-zeros (low_part_of sum) p (low_part-zero sum zero-sum) both.0 (length-low_part sum ∙ sym fits.0.0)
+
+      same : known_of (low_part_of sum) before ≡ before
+      same =
+          ap₂ (λ c w. record { content = c; within = w }) (ap (λ m. gcd m before.content) none ∙ zero-gcd before.content)
+          (ap (λ u. before.within && u) (ap (every small) low ∙ true_of _ fits.1.0) ∙ and-true before.within)
 
   -- The combination of shortened polynomials.
   module _ (r s : Polynomial) (x : Shortened r p) (y : Shortened s q) where
@@ -166,23 +182,25 @@ module _ (g h p q : Polynomial) (fits : PartFits g h p q) where
       shortened-fits s q y (omega (arith, fits.0.1), le_of_eq fits.0.1, fits.1.1),
     )
 
-    pub beyond-made : not (is_low short) ≡ true → (d : ℕ) (t : Bool)
-        → PartMade sum d t p p (record { beyond = true; content = d; within = t })
-    beyond-made b d t = record {
-      degree = sym b ∙ ap not high_is;
-      store = refl;
-      content-is = λ e. absurd (true≢false e);
-      within-is = λ e. absurd (true≢false e);
-    }
+    pub beyond-made : not (is_low short) ≡ true → (before : Known) → PartMade sum before p p None
+    beyond-made b before =
+        let past : is_low sum ≡ false = sym high_is ∙ not-true _ b in record {
+          value = sym (ap (λ t. cond t (Some (known_of (low_part_of sum) before)) None) past);
+          store = sym (ap (λ t. cond t (low_part_of sum) p) past);
+        }
 
     -- Numbers that stand at the front, with zeros behind them.
     saved-made : is_low sum ≡ true → (n : ℕ) → n ≤ coefficient_count → T (is_zero_of (drop n p)) → T (is_zero_of (drop n (low_part_of sum)))
-        → {l after : List ℤ} {d : ℕ} {t : Bool} {m : Made} → l ≡ take n (low_part_of sum) → SumsSaved l d t p after m → PartMade sum d t p after m
-    saved-made low n inside z w {l} {after} {d} {t} {m} e saved = record {
-      degree = saved.known.low ∙ ap not (sym low);
-      store = saved.store ∙ stored ∙ sym (ap (λ u. cond u p (low_part_of sum)) saved.known.low);
-      content-is = λ u. saved.known.content-is ∙ ap (λ k. gcd k d) (ap content e ∙ content-take n (low_part_of sum) w);
-      within-is = λ u. saved.known.within-is ∙ ap (λ v. t && v) (ap (every small) e ∙ small-take n (low_part_of sum) w);
+        → {l after : List ℤ} {before m : Known} → l ≡ take n (low_part_of sum) → SumsSaved l before p after m
+        → PartMade sum before p after (Some m)
+    saved-made low n inside z w {l} {after} {before} {m} e saved = record {
+      value =
+          ap Some (saved.known
+          ∙ ap₂ (λ c u. record { content = c; within = u })
+          (ap (λ k. gcd k before.content) (ap content e ∙ content-take n (low_part_of sum) w))
+          (ap (λ v. before.within && v) (ap (every small) e ∙ small-take n (low_part_of sum) w)))
+          ∙ sym (ap (λ t. cond t (Some (known_of (low_part_of sum) before)) None) low);
+      store = saved.store ∙ stored ∙ sym (ap (λ u. cond u (low_part_of sum) p) low);
     }
       where
         long : length l ≡ n
@@ -194,8 +212,8 @@ module _ (g h p q : Polynomial) (fits : PartFits g h p q) where
             ∙ ap₂ ◌++◌ e (same-zeros (drop n p) (drop n (low_part_of sum)) z w (simp (length-drop, length-low_part) (omega (arith, fits.0.0))))
             ∙ take-append-drop n (low_part_of sum)
 
-    pub whole-made : not (is_low short) ≡ false → {l after : List ℤ} {d : ℕ} {t : Bool} {m : Made} → l ≡ low_part_of short
-        → SumsSaved l d t p after m → PartMade sum d t p after m
+    pub whole-made : not (is_low short) ≡ false → {l after : List ℤ} {before m : Known} → l ≡ low_part_of short
+        → SumsSaved l before p after m → PartMade sum before p after (Some m)
     whole-made b e saved =
         let all = sym (take_all coefficient_count (low_part_of sum) (le_of_eq (length-low_part sum))) in
         saved-made (sym high_is ∙ not-false _ b) coefficient_count (omega arith) (past p (le_of_eq fits.0.0))
@@ -220,7 +238,8 @@ module _ (g h p q : Polynomial) (fits : PartFits g h p q) where
       front_fits = factors r s front-p front-q
 
       pub sums-made : (n : ℕ) → length g ≡ n → length h ≡ n → n + few ≤ coefficient_count + 1
-          → {l after : List ℤ} {d : ℕ} {t : Bool} {m : Made} → l ≡ low_sums n g r h s → SumsSaved l d t p after m → PartMade sum d t p after m
+          → {l after : List ℤ} {before m : Known} → l ≡ low_sums n g r h s → SumsSaved l before p after m
+          → PartMade sum before p after (Some m)
       unfolding coeff
       sums-made n in_g in-h powers {l} e saved =
           saved-made r s front-p front-q low count (omega arith)
@@ -255,26 +274,22 @@ module _ (g h p q : Polynomial) (fits : PartFits g h p q) where
 
 -- ---- the polynomials of a list
 
--- The first e polynomials of the list `target` are combined with those of `pivot` in the list `place`; d₀ and t₀ are of numbers before them.
-pub record PartsBegun (g h : Polynomial) (target pivot : List ℤ) (d₀ : ℕ) (t₀ : Bool) (place : List ℤ) (d : ℕ) (t : Bool) (e : ℕ)
-    : Type 0 where
+-- The first e polynomials of the list `target` are combined with those of `pivot` in the list `place`, which makes `known` of what was known
+-- before.
+pub record PartsBegun (g h : Polynomial) (target pivot : List ℤ) (before : Known) (place : List ℤ) (known : Known) (e : ℕ) : Type 0 where
   pub inside : e * coefficient_count ≤ length target
   pub place_is : place
       ≡ over_front (low_numbers (length target / coefficient_count) g h target pivot) target (e * coefficient_count)
   pub degrees : every is_low (take e (combinations (length target / coefficient_count) g h target pivot)) ≡ true
-  pub content-is : d
-      ≡ gcd (content (take (e * coefficient_count) (low_numbers (length target / coefficient_count) g h target pivot))) d₀
-  pub within-is : t
-      ≡ (t₀ && every small (take (e * coefficient_count) (low_numbers (length target / coefficient_count) g h target pivot)))
+  pub known-is : known ≡ known_of (take (e * coefficient_count) (low_numbers (length target / coefficient_count) g h target pivot)) before
 
-pub parts-start : (g h : Polynomial) (target pivot : List ℤ) (d : ℕ) (t : Bool) → PartsBegun g h target pivot d t target d t 0
+pub parts-start : (g h : Polynomial) (target pivot : List ℤ) (before : Known) → PartsBegun g h target pivot before target before 0
 unfolding every content
-parts-start g h target pivot d t = record {
+parts-start g h target pivot before = record {
   inside = omega arith;
   place_is = refl;
   degrees = refl;
-  content-is = sym (zero-gcd d);
-  within-is = sym (and-true t);
+  known-is = sym (ap₂ (λ c w. record { content = c; within = w }) (zero-gcd before.content) (and-true before.within));
 }
 
 module _ {count : ℕ} {g h : Polynomial} {target pivot : List ℤ} (fits : PartsFit count g h target pivot) where
@@ -290,7 +305,7 @@ module _ {count : ℕ} {g h : Polynomial} {target pivot : List ℤ} (fits : Part
   numbers-long : length numbers ≡ length target
   numbers-long = length-low n g h target pivot ∙ sym fits.whole
 
-  module _ {d₀ : ℕ} {t₀ : Bool} {place : List ℤ} {d : ℕ} {t : Bool} {e : ℕ} (begun : PartsBegun g h target pivot d₀ t₀ place d t e) where
+  module _ {before : Known} {place : List ℤ} {known : Known} {e : ℕ} (begun : PartsBegun g h target pivot before place known e) where
     abbrev k : ℕ
     k = e * coefficient_count
 
@@ -321,40 +336,36 @@ module _ {count : ℕ} {g h : Polynomial} {target pivot : List ℤ} (fits : Part
         ),
       )
 
-      module _ {before after : List ℤ} {r : Made}
-          (made : PartMade (sum_of g h (coefficients_at_of target e) (coefficients_at_of pivot e)) d t before after r) where
-        degree-is : r.beyond ≡ not (is_low (get_or ps e []))
-        degree-is = made.degree ∙ ap (λ p. not (is_low p)) (sym (combination-at n g h target pivot e left))
+      abbrev sum-here : Polynomial
+      sum-here = sum_of g h (coefficients_at_of target e) (coefficients_at_of pivot e)
 
-        low-part-is : low_part_of (sum_of g h (coefficients_at_of target e) (coefficients_at_of pivot e)) ≡ coefficients_at_of numbers e
-        low-part-is = sym (low_part n g h target pivot e left)
+      degree-is : is_low (get_or ps e []) ≡ is_low sum-here
+      degree-is = ap is_low (combination-at n g h target pivot e left)
 
-        next-is : k + coefficient_count ≡ (e + 1) * coefficient_count
-        next-is = omega arith
+      low-part-is : low_part_of sum-here ≡ coefficients_at_of numbers e
+      low-part-is = sym (low_part n g h target pivot e left)
 
-        taken_next : take ((e + 1) * coefficient_count) numbers ≡ take k numbers ++ coefficients_at_of numbers e
-        taken_next = ap (λ m. take m numbers) (sym next-is) ∙ take-add k coefficient_count numbers
+      next-is : k + coefficient_count ≡ (e + 1) * coefficient_count
+      next-is = omega arith
 
-        pub parts_next : r.beyond ≡ false
-            → PartsBegun g h target pivot d₀ t₀ (take k place ++ (after ++ drop coefficient_count (drop k place))) r.content r.within (e + 1)
-        parts_next low = record {
+      taken_next : take ((e + 1) * coefficient_count) numbers ≡ take k numbers ++ coefficients_at_of numbers e
+      taken_next = ap (λ m. take m numbers) (sym next-is) ∙ take-add k coefficient_count numbers
+
+      module _ {part after : List ℤ} where
+        pub parts_next : {more : Known} → PartMade sum-here known part after (Some more)
+            → PartsBegun g h target pivot before (take k place ++ (after ++ drop coefficient_count (drop k place))) more (e + 1)
+        parts_next {more} made = let passed = some-passed (is_low sum-here) made.value in record {
           inside = omega (arith, room);
           place_is =
               ap₂ (λ a b. a ++ (b ++ drop coefficient_count (drop k place))) front
-              (made.store ∙ ap (λ u. cond u before (low_part_of (sum_of g h (coefficients_at_of target e) (coefficients_at_of pivot e)))) low ∙ low-part-is)
+              (made.store ∙ ap (λ u. cond u (low_part_of sum-here) part) passed.0 ∙ low-part-is)
               ∙ ap (λ b. take k numbers ++ (coefficients_at_of numbers e ++ b)) behind
               ∙ sym (append_assoc (take k numbers) (coefficients_at_of numbers e) (drop ((e + 1) * coefficient_count) target))
               ∙ ap (λ a. a ++ drop ((e + 1) * coefficient_count) target) (sym taken_next);
-          degrees = every-longer is_low ps e [] some_left begun.degrees (not-false _ (sym degree-is ∙ low));
-          content-is =
-              made.content-is low ∙ ap₂ (λ l m. gcd (content l) m) low-part-is begun.content-is
-              ∙ sym (gcd-assoc (content (coefficients_at_of numbers e)) (content (take k numbers)) d₀)
-              ∙ ap (λ m. gcd m d₀) (gcd-comm (content (coefficients_at_of numbers e)) (content (take k numbers))
-              ∙ sym (ap content taken_next ∙ content-append (take k numbers) (coefficients_at_of numbers e)));
-          within-is =
-              made.within-is low ∙ ap₂ (λ u l. u && every small l) begun.within-is low-part-is
-              ∙ and_assoc t₀ (every small (take k numbers)) (every small (coefficients_at_of numbers e))
-              ∙ ap (λ u. t₀ && u) (sym (ap (every small) taken_next ∙ every_append small (take k numbers) (coefficients_at_of numbers e)));
+          degrees = every-longer is_low ps e [] some_left begun.degrees (degree-is ∙ passed.0);
+          known-is =
+              passed.1 ∙ ap₂ known_of low-part-is begun.known-is ∙ known-twice (take k numbers) (coefficients_at_of numbers e) before
+              ∙ ap (λ l. known_of l before) (sym taken_next);
         }
           where
             front : take k place ≡ take k numbers
@@ -368,30 +379,29 @@ module _ {count : ℕ} {g h : Polynomial} {target pivot : List ℤ} (fits : Part
                 ∙ over-behind numbers target k (omega (arith, numbers-long, begun.inside)) (k + coefficient_count) (omega arith)
                 ∙ ap (λ m. drop m target) next-is
 
-        pub parts-beyond : r.beyond ≡ true → {l : List ℤ} → PartsMade ps d₀ t₀ l r
-        parts-beyond past =
-            let never : r.beyond ≡ false → ⊥ = λ low. true≢false (sym past ∙ low) in record {
-              degrees = past ∙ ap not (sym (every-false is_low ps e [] some_left (not-true _ (sym degree-is ∙ past))));
-              store = λ low. absurd (never low);
-              content-is = λ low. absurd (never low);
-              within-is = λ low. absurd (never low);
+        pub parts-beyond : PartMade sum-here known part after None → {l : List ℤ} → PartsMade ps before l None
+        parts-beyond made =
+            let past : every is_low ps ≡ false =
+            every-false is_low ps e [] some_left (degree-is ∙ none-failed (is_low sum-here) _ made.value) in record {
+              value = sym (ap (λ t. cond t (Some (known_of numbers before)) None) past);
+              store = λ low. absurd (true≢false (sym low ∙ past));
             }
 
   -- Behind the first `count` nothing has to be done.
-  parts-skip : {d₀ : ℕ} {t₀ : Bool} {place : List ℤ} {d : ℕ} {t : Bool} (j e : ℕ) → j + e ≡ n → count ≤ e
-      → PartsBegun g h target pivot d₀ t₀ place d t e → PartsBegun g h target pivot d₀ t₀ place d t n
-  parts-skip {d₀} {t₀} {place} {d} {t} zero e s c begun = subst (PartsBegun g h target pivot d₀ t₀ place d t) (omega arith) begun
-  parts-skip {d₀} {t₀} {place} {d} {t} (suc j) e s c begun = parts-skip j (e + 1) (omega arith) (omega arith) next
+  parts-skip : {before : Known} {place : List ℤ} {known : Known} (j e : ℕ) → j + e ≡ n → count ≤ e
+      → PartsBegun g h target pivot before place known e → PartsBegun g h target pivot before place known n
+  parts-skip {before} {place} {known} zero e s c begun = subst (PartsBegun g h target pivot before place known) (omega arith) begun
+  parts-skip {before} {place} {known} (suc j) e s c begun = parts-skip j (e + 1) (omega arith) (omega arith) next
     where
       left : e < n
       left = omega arith
 
-      made : PartMade (sum_of g h (coefficients_at_of target e) (coefficients_at_of pivot e)) d t (coefficients_at_of target e) (coefficients_at_of target e)
-          (record { beyond = false; content = d; within = t })
+      made : PartMade (sum_of g h (coefficients_at_of target e) (coefficients_at_of pivot e)) known (coefficients_at_of target e)
+          (coefficients_at_of target e) (Some known)
       made =
           zero-made g h (coefficients_at_of target e) (coefficients_at_of pivot e) (part-fits begun left)
           (true_of _ ((T-&& (is_zero_of (coefficients_at_of target e)) (is_zero_of (coefficients_at_of pivot e))).1
-          (part-zero target count e c fits.target-rest, part-zero pivot count e c fits.pivot-rest))) d t
+          (part-zero target count e c fits.target-rest, part-zero pivot count e c fits.pivot-rest))) known
 
       same : take (e * coefficient_count) place ++ (coefficients_at_of target e ++ drop coefficient_count (drop (e * coefficient_count) place)) ≡ place
       same =
@@ -400,18 +410,19 @@ module _ {count : ℕ} {g h : Polynomial} {target pivot : List ℤ} (fits : Part
           ∙ ap (λ r. take (e * coefficient_count) place ++ r) (take-append-drop coefficient_count (drop (e * coefficient_count) place))
           ∙ take-append-drop (e * coefficient_count) place
 
-      next : PartsBegun g h target pivot d₀ t₀ place d t (e + 1)
-      next = subst (λ l. PartsBegun g h target pivot d₀ t₀ l d t (e + 1)) same (parts_next begun left made refl)
+      next : PartsBegun g h target pivot before place known (e + 1)
+      next = subst (λ l. PartsBegun g h target pivot before l known (e + 1)) same (parts_next begun left made)
 
-  pub parts-end : {d₀ : ℕ} {t₀ : Bool} {place : List ℤ} {d : ℕ} {t : Bool} {e : ℕ} → PartsBegun g h target pivot d₀ t₀ place d t e
-      → count ≤ e → e ≤ n → PartsMade ps d₀ t₀ place (record { beyond = false; content = d; within = t })
-  parts-end {d₀} {t₀} {place} {d} {t} {e} begun c inside =
+  pub parts-end : {before : Known} {place : List ℤ} {known : Known} {e : ℕ} → PartsBegun g h target pivot before place known e
+      → count ≤ e → e ≤ n → PartsMade ps before place (Some known)
+  parts-end {before} {place} {known} {e} begun c inside =
       let all = parts-skip (n - e) e (omega arith) c begun in
-      let whole = take_all (n * coefficient_count) numbers (omega (arith, numbers-long, fits.whole)) in record {
-        degrees = ap not (sym (ap (every is_low) (sym (take_all n ps (le_of_eq (length-combinations n g h target pivot)))) ∙ all.degrees));
-        store = λ low. all.place_is ∙ ap₂ ◌++◌ whole (none (omega (arith, fits.whole))) ∙ append-nil numbers;
-        content-is = λ low. all.content-is ∙ ap (λ l. gcd (content l) d₀) whole;
-        within-is = λ low. all.within-is ∙ ap (λ l. t₀ && every small l) whole;
+      let whole = take_all (n * coefficient_count) numbers (omega (arith, numbers-long, fits.whole)) in
+      let low : every is_low ps ≡ true =
+      ap (every is_low) (sym (take_all n ps (le_of_eq (length-combinations n g h target pivot)))) ∙ all.degrees in record {
+        value =
+            ap Some (all.known-is ∙ ap (λ l. known_of l before) whole) ∙ sym (ap (λ t. cond t (Some (known_of numbers before)) None) low);
+        store = λ _. all.place_is ∙ ap₂ ◌++◌ whole (none (omega (arith, fits.whole))) ∙ append-nil numbers;
       }
     where
       none : length target ≤ n * coefficient_count → drop (n * coefficient_count) target ≡ []
@@ -419,12 +430,10 @@ module _ {count : ℕ} {g h : Polynomial} {target pivot : List ℤ} (fits : Part
 
 -- Polynomials that are combined by shortened multipliers.
 pub shortened-made : (a g b h : Polynomial) → Shortened a g → Shortened b h → (n : ℕ) (target pivot : List ℤ)
-    → {d : ℕ} {t : Bool} {after : List ℤ} {r : Made}
-    → PartsMade (combinations n a b target pivot) d t after r → PartsMade (combinations n g h target pivot) d t after r
-shortened-made a g b h x y n target pivot {d} {t} made =
+    → {before : Known} {after : List ℤ} {r : Option Known}
+    → PartsMade (combinations n a b target pivot) before after r → PartsMade (combinations n g h target pivot) before after r
+shortened-made a g b h x y n target pivot {before} made =
     let same = shortened-combinations a g b h x y n target pivot in record {
-      degrees = made.degrees ∙ ap not same.0;
-      store = λ low. made.store low ∙ ap flatten same.1;
-      content-is = λ low. made.content-is low ∙ ap (λ m. gcd (content (flatten m)) d) same.1;
-      within-is = λ low. made.within-is low ∙ ap (λ m. t && every small (flatten m)) same.1;
+      value = made.value ∙ ap₂ (λ t m. cond t (Some (known_of (flatten m) before)) None) same.0 same.1;
+      store = λ low. made.store (same.0 ∙ low) ∙ ap flatten same.1;
     }

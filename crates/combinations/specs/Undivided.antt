@@ -3,14 +3,14 @@
 -- Main definitions
 --   RowsFit g h target pivot width   what is asked where a row is combined with another
 --   StoredFit g h target pivot   the same where a store holds both rows
---   past_row               the answer where a degree is past 15
---   undivided_of g h t u   the answer for the multipliers g and h and the numbers t and u of two rows
+--   whole_row l            the row of the numbers l, with its content and whether they are within ±C
+--   undivided_of g h t u   the answer for the multipliers g and h and the numbers t and u of two rows: none where a degree is past 15
 --   Divisible row d       d divides every coefficient of a row
 --   divided_row_of row d      the row divided by d
 --
 -- Main statements
 --   loaded-held, stored-fits   a row that has been loaded from a store
---   undivided-beyond, undivided-past   the answer tells whether a degree is past 15; then it has no content
+--   undivided-low         there is an answer where no degree is past 15
 --   width-bound           a row that is zero from block n on is at most n blocks wide
 --   divided-width         a division keeps the width
 --   left-fits, right-fits, left-made, right-made   the parts of both rows, which are zero past the wider one's width
@@ -18,14 +18,13 @@
 --   after-width           how wide the row of the answer can be
 --   limited-beyond, limited-within, worked_same   the limits of a row
 --   combined-past, new-divided, new-kept, wholly-divisible   the row of the answer after its division
-use Rattle.std.specs.Prelude.{◌≡◌, refl, Bool, true, false, ◌&&◌, ℕ, zero, suc, ◌+◌, ◌*◌, ◌-◌, ◌/◌, ◌^◌, ◌≤◌, ◌<◌, max, eqb, ℤ, pos, nat_abs, take, drop, get_or, replicate}
+use Rattle.std.specs.Prelude.{◌≡◌, refl, Bool, true, false, ◌&&◌, ℕ, zero, suc, ◌+◌, ◌*◌, ◌-◌, ◌/◌, ◌^◌, ◌≤◌, ◌<◌, max, eqb, ℤ, pos, nat_abs, take, drop, get_or, Option}
 use Rattle.std.proofs.Math.Path.{sym, ap, ap₂, subst}
-use Rattle.std.proofs.Common.{◌∙◌, true≢false, zero-le, le_of_eq, le_refl, arith, lt→ltb, take-append-drop, drop_of_length-le, take_all, drop_at, get_or-drop}
+use Rattle.std.proofs.Common.{Some, None, ◌∙◌, zero-le, le_of_eq, le_refl, arith, lt→ltb, take-append-drop, drop_of_length-le, take_all, drop_at, get_or-drop}
 use Rattle.std.proofs.Math.Bool.{not, and-false, cond}
 use mathlib.Core.List.{List, [], ◌∷◌, ◌++◌, map, flatten, zip_with, map-append}
 use Rattle.std.specs.Int.{◌∣◌}
 use Rattle.std.proofs.Math.Nat.{dvd_refl}
-use Rattle.std.proofs.lemmas.Bool.{not-true, not-false}
 use Rattle.std.proofs.Math.Dec.{T}
 use Rattle.std.proofs.Math.ListN.{length, length-drop}
 use Rattle.std.proofs.Math.Seq.{take_at}
@@ -34,7 +33,7 @@ use Rattle.lists.specs.Images.{zip_with-append, map-take, map-drop}
 use Rattle.lists.specs.Joined.{flatten-append}
 use Rattle.lists.specs.Parts.{parts, parts-length, parts-append, parts-take}
 use Rattle.lists.specs.Tests.{T-&&, true_of, true-T, every, every_append, every_take, every_drop}
-use Rattle.algebra.specs.Gcd.{gcd, content, divide_by, gcd-comm, gcd-zero, content-append, is_zero-divide_by, divides_all-of-content}
+use Rattle.algebra.specs.Gcd.{content, divide_by, gcd-zero, is_zero-divide_by, divides_all-of-content}
 use Rattle.algebra.specs.Polynomials.{Polynomial, is_zero_of, is_zero-append, add, mul, coeff-is_zero}
 use Rattle.algebra.specs.Coefficients.{coeff-drop, coeff-past-length}
 use Rattle.polynomials.specs.Content.{Below}
@@ -50,12 +49,12 @@ use Rattle.working_rows.specs.Found.{width-rest, width-most, zero-later, zero-fr
 use Rattle.working_rows.specs.Worked.{worked_row, limit-within, limit-beyond}
 use Rattle.working_rows.specs.Working.{working_of, numbers_held, Full, full-of, length-held, small-apart, left-long}
 use Rattle.working_rows.specs.Working.{width-left, width-held, right-held, width-zero, loaded, full-loaded, numbers-loaded, width-of}
-use Rattle.combinations.specs.declared.Made.{Made}
+use Rattle.combinations.specs.declared.Known.{Known}
 use Rattle.combinations.specs.declared.Combination.{Combination}
 use Rattle.combinations.specs.Combination.{Counted, Shortened, shortened-fits, low_part_of, combinations, low_numbers, length-low, zero-part}
 use Rattle.combinations.specs.Combination.{low-degrees, cut_low, numbers-below, StoreRow-primitive}
 use Rattle.combinations.specs.Primitive.{is_low, divides-append, primitive_numbers, primitive-divided, primitive-kept, cut-primitive, limit-past, limit-low}
-use Rattle.combinations.specs.Parts.{PartsFit, PartsMade, shortened-made, part-zero}
+use Rattle.combinations.specs.Parts.{PartsFit, PartsMade, known_of, known-twice, some-passed, none-failed, shortened-made, part-zero}
 
 pub record RowsFit (g h : Polynomial) (target : WorkingRow) (pivot : List ℤ) (wide : ℕ) : Type 0 where
   pub g-long : length g ≡ coefficient_count
@@ -98,45 +97,19 @@ stored-fits {target = target} {row = row} fits e f = record {
   pivot-width = f;
 }
 
-abbrev pub past_row : Combination
-past_row =
-    record {
-      beyond = true;
-      content = 0;
-      within = true;
-      row = record { entries = replicate entries_length (pos 0); right = replicate coefficient_count (pos 0); width = 0 };
-    }
-
 -- The row of the numbers l.
 abbrev pub whole_row : List ℤ → Combination
-whole_row l =
-    record {
-      beyond = false;
-      content = content l;
-      within = every small l;
-      row = working_of (take entries_length l) (drop entries_length l);
-    }
+whole_row l = record { content = content l; within = every small l; row = working_of (take entries_length l) (drop entries_length l) }
 
-unfoldable pub undivided_of : Polynomial → Polynomial → List ℤ → List ℤ → Combination
-undivided_of g h t u = cond (every is_low (combinations part_count g h t u)) (whole_row (low_numbers part_count g h t u)) past_row
+unfoldable pub undivided_of : Polynomial → Polynomial → List ℤ → List ℤ → Option Combination
+undivided_of g h t u = cond (every is_low (combinations part_count g h t u)) (Some (whole_row (low_numbers part_count g h t u))) None
 
-pub undivided-beyond : (g h : Polynomial) (t u : List ℤ)
-    → (undivided_of g h t u).beyond ≡ not (low_degrees (combine g h (row_of t) (row_of u)))
+-- There is an answer where no degree is past 15.
+pub undivided-low : (g h : Polynomial) (t u : List ℤ)
+    → undivided_of g h t u
+    ≡ cond (low_degrees (combine g h (row_of t) (row_of u))) (Some (whole_row (low_numbers part_count g h t u))) None
 unfolding undivided_of
-undivided-beyond g h t u = cases (every is_low (combinations part_count g h t u)) ∙ ap not (sym (low-degrees g h t u))
-  where
-    cases : (b : Bool) → (cond b (whole_row (low_numbers part_count g h t u)) past_row).beyond ≡ not b
-    cases true = refl
-    cases false = refl
-
-pub undivided-past : (g h : Polynomial) (t u : List ℤ) → (undivided_of g h t u).beyond ≡ true → (undivided_of g h t u).content ≡ 0
-unfolding undivided_of
-undivided-past g h t u e = cases (every is_low (combinations part_count g h t u)) e
-  where
-    cases : (b : Bool) → (cond b (whole_row (low_numbers part_count g h t u)) past_row).beyond ≡ true
-        → (cond b (whole_row (low_numbers part_count g h t u)) past_row).content ≡ 0
-    cases true f = absurd (true≢false (sym f))
-    cases false f = refl
+undivided-low g h t u = ap (λ b. cond b (Some (whole_row (low_numbers part_count g h t u))) None) (sym (low-degrees g h t u))
 
 -- ---- widths
 
@@ -326,19 +299,19 @@ module _ {g h : Polynomial} {target : WorkingRow} {pivot : List ℤ} {wide : ℕ
         other = rw length-drop (omega (arith, fits.pivot-long))
 
     -- The left parts and the right sides as the code combines them.
-    pub left-made : {d : ℕ} {u : Bool} {after : List ℤ} {r : Made}
-        → PartsMade (combinations (length target.entries / coefficient_count) a b target.entries pivot_left) d u after r
-        → PartsMade left_sums_of d u after r
-    left-made {d} {u} {after} {r} made =
+    pub left-made : {before : Known} {after : List ℤ} {r : Option Known}
+        → PartsMade (combinations (length target.entries / coefficient_count) a b target.entries pivot_left) before after r
+        → PartsMade left_sums_of before after r
+    left-made {before} {after} {r} made =
         shortened-made a g b h x y polynomial_count target.entries pivot_left
-        (subst (λ n. PartsMade (combinations (n / coefficient_count) a b target.entries pivot_left) d u after r) long made)
+        (subst (λ n. PartsMade (combinations (n / coefficient_count) a b target.entries pivot_left) before after r) long made)
 
-    pub right-made : {d : ℕ} {u : Bool} {after : List ℤ} {r : Made}
-        → PartsMade (combinations (length target.right / coefficient_count) a b target.right (drop entries_length pivot)) d u after r
-        → PartsMade right_sums d u after r
-    right-made {d} {u} {after} {r} made =
+    pub right-made : {before : Known} {after : List ℤ} {r : Option Known}
+        → PartsMade (combinations (length target.right / coefficient_count) a b target.right (drop entries_length pivot)) before after r
+        → PartsMade right_sums before after r
+    right-made {before} {after} {r} made =
         shortened-made a g b h x y 1 target.right (drop entries_length pivot)
-        (subst (λ n. PartsMade (combinations (n / coefficient_count) a b target.right (drop entries_length pivot)) d u after r)
+        (subst (λ n. PartsMade (combinations (n / coefficient_count) a b target.right (drop entries_length pivot)) before after r)
         fits.target-full.right-long made)
 
   sums-split : combinations part_count g h t pivot ≡ left_sums_of ++ right_sums
@@ -368,29 +341,37 @@ module _ {g h : Polynomial} {target : WorkingRow} {pivot : List ℤ} {wide : ℕ
       ∙ flatten-append (map low_part_of left_sums_of) (map low_part_of right_sums)
 
   undivided-is : (u : Bool) → every is_low (combinations part_count g h t pivot) ≡ u
-      → undivided_of g h t pivot ≡ cond u (whole_row (low_numbers part_count g h t pivot)) past_row
+      → undivided_of g h t pivot ≡ cond u (Some (whole_row (low_numbers part_count g h t pivot))) None
   unfolding undivided_of
-  undivided-is u e = ap (λ v. cond v (whole_row (low_numbers part_count g h t pivot)) past_row) e
+  undivided-is u e = ap (λ v. cond v (Some (whole_row (low_numbers part_count g h t pivot))) None) e
 
-  pub past-left : {d : ℕ} {u : Bool} {after : List ℤ} {r : Made} → PartsMade left_sums_of d u after r → r.beyond ≡ true
-      → past_row ≡ undivided_of g h t pivot
-  past-left made past =
-      sym (undivided-is false (degrees-split ∙ ap (λ u. u && every is_low right_sums) (not-true (every is_low left_sums_of) (sym made.degrees ∙ past))))
+  pub past-left : {before : Known} {after : List ℤ} → PartsMade left_sums_of before after None → None ≡ undivided_of g h t pivot
+  past-left made =
+      sym (undivided-is false (degrees-split ∙ ap (λ u. u && every is_low right_sums) (none-failed (every is_low left_sums_of) _ made.value)))
 
-  pub past-right : {d : ℕ} {u : Bool} {after : List ℤ} {r : Made} → PartsMade right_sums d u after r → r.beyond ≡ true
-      → past_row ≡ undivided_of g h t pivot
-  past-right made past =
-      sym (undivided-is false (degrees-split ∙ ap (λ u. every is_low left_sums_of && u) (not-true (every is_low right_sums) (sym made.degrees ∙ past))
+  pub past-right : {before : Known} {after : List ℤ} → PartsMade right_sums before after None → None ≡ undivided_of g h t pivot
+  past-right made =
+      sym (undivided-is false (degrees-split ∙ ap (λ u. every is_low left_sums_of && u) (none-failed (every is_low right_sums) _ made.value)
       ∙ and-false (every is_low left_sums_of)))
 
+  -- Nothing is known yet.
+  abbrev none : Known
+  none = record { content = 0; within = true }
+
   -- The left part that was made is as long as one, and zero past the wider row's width.
-  module _ {after : List ℤ} {left : Made} (made : PartsMade left_sums_of 0 true after left) (low : left.beyond ≡ false) where
+  module _ {after : List ℤ} {left : Known} (made : PartsMade left_sums_of none after (Some left)) where
+    left-passed : (every is_low left_sums_of ≡ true) × (left ≡ known_of (flatten (map low_part_of left_sums_of)) none)
+    left-passed = some-passed (every is_low left_sums_of) made.value
+
+    after-is : after ≡ flatten (map low_part_of left_sums_of)
+    after-is = made.store left-passed.0
+
     pub after-long : length after ≡ entries_length
-    after-long = ap length (made.store low) ∙ length-low polynomial_count g h target.entries pivot_left
+    after-long = ap length (after-is) ∙ length-low polynomial_count g h target.entries pivot_left
 
     pub after-width : width (row_of after) ≤ blocks
     after-width =
-        width-bound after blocks (subst (λ l. T (is_zero_of (drop (blocks * block_length) l))) (sym (made.store low)) rest)
+        width-bound after blocks (subst (λ l. T (is_zero_of (drop (blocks * block_length) l))) (sym (after-is)) rest)
       where
         numbers : List ℤ
         numbers = low_numbers polynomial_count g h target.entries pivot_left
@@ -417,39 +398,30 @@ module _ {g h : Polynomial} {target : WorkingRow} {pivot : List ℤ} {wide : ℕ
             (zero-from coefficient_count polynomial_count numbers none (polynomial_count - blocks * column_count) (blocks * column_count)
             (omega (arith, blocks-most)) zeros)
 
-    pub made-whole : {other : List ℤ} {all : Made} → PartsMade right_sums left.content left.within other all → all.beyond ≡ false
-        → record {
-          beyond = false;
-          content = all.content;
-          within = all.within;
-          row = working_of after other;
-        } ≡ undivided_of g h t pivot
-    made-whole {other} {all} more fine =
-        ap₂ (λ d u. record { beyond = false; content = d; within = u; row = working_of after other }) content-is within-is
-        ∙ ap₂ (λ e s. record { beyond = false; content = content numbers; within = every small numbers; row = working_of e s })
+    pub made-whole : {other : List ℤ} {all : Known} → PartsMade right_sums left other (Some all)
+        → Some (record { content = all.content; within = all.within; row = working_of after other }) ≡ undivided_of g h t pivot
+    made-whole {other} {all} more =
+        ap Some (ap (λ k. record { content = k.content; within = k.within; row = working_of after other }) known-is
+        ∙ ap₂ (λ e s. record { content = content numbers; within = every small numbers; row = working_of e s })
         (sym (ap (take entries_length) joined ∙ take_at after other entries_length after-long))
-        (sym (ap (drop entries_length) joined ∙ drop_at after other entries_length after-long))
-        ∙ sym (undivided-is true (degrees-split
-        ∙ ap₂ ◌&&◌ (not-false (every is_low left_sums_of) (sym made.degrees ∙ low)) (not-false (every is_low right_sums) (sym more.degrees ∙ fine))))
+        (sym (ap (drop entries_length) joined ∙ drop_at after other entries_length after-long)))
+        ∙ sym (undivided-is true (degrees-split ∙ ap₂ ◌&&◌ left-passed.0 right-passed.0))
       where
         numbers : List ℤ
         numbers = low_numbers part_count g h t pivot
 
+        right-passed : (every is_low right_sums ≡ true) × (all ≡ known_of (flatten (map low_part_of right_sums)) left)
+        right-passed = some-passed (every is_low right_sums) more.value
+
         joined : numbers ≡ after ++ other
-        joined = numbers-split ∙ ap₂ ◌++◌ (sym (made.store low)) (sym (more.store fine))
+        joined = numbers-split ∙ ap₂ ◌++◌ (sym after-is) (sym (more.store right-passed.0))
 
-        content-is : all.content ≡ content numbers
-        content-is =
-            more.content-is fine
-            ∙ ap₂ (λ l d. gcd (content l) d) (sym (more.store fine))
-            (made.content-is low ∙ gcd-zero (content (flatten (map low_part_of left_sums_of))) ∙ ap content (sym (made.store low)))
-            ∙ gcd-comm (content other) (content after) ∙ sym (ap content joined ∙ content-append after other)
-
-        within-is : all.within ≡ every small numbers
-        within-is =
-            more.within-is fine
-            ∙ ap₂ (λ u l. u && every small l) (made.within-is low ∙ ap (every small) (sym (made.store low))) (sym (more.store fine))
-            ∙ sym (ap (every small) joined ∙ every_append small after other)
+        known-is : all ≡ record { content = content numbers; within = every small numbers }
+        known-is =
+            right-passed.1
+            ∙ ap₂ known_of (sym (more.store right-passed.0)) (left-passed.1 ∙ ap (λ l. known_of l none) (sym after-is))
+            ∙ known-twice after other none ∙ ap (λ l. known_of l none) (sym joined)
+            ∙ ap (λ c. record { content = c; within = every small numbers }) (gcd-zero (content numbers))
 
   -- ---- the row after its division
 
@@ -468,23 +440,22 @@ module _ {g h : Polynomial} {target : WorkingRow} {pivot : List ℤ} {wide : ℕ
   low-is : low_degrees combination ≡ every is_low (combinations part_count g h t pivot)
   low-is = low-degrees g h t pivot
 
-  pub combined-past : (undivided_of g h t pivot).beyond ≡ true → consistent (limit_degrees (primitive combination)) ≡ beyond 7
-  combined-past past = limit-past combination (low-is ∙ cases (every is_low (combinations part_count g h t pivot)) refl)
-    where
-      cases : (u : Bool) → every is_low (combinations part_count g h t pivot) ≡ u → every is_low (combinations part_count g h t pivot) ≡ false
-      cases false e = e
-      cases true e = absurd (true≢false (sym past ∙ ap (λ r. r.beyond) (undivided-is true e)))
+  pub combined-past : undivided_of g h t pivot ≡ None → consistent (limit_degrees (primitive combination)) ≡ beyond 7
+  combined-past past =
+      limit-past combination
+      (low-is ∙ none-failed (every is_low (combinations part_count g h t pivot)) _ (sym past ∙ undivided-is (every is_low (combinations part_count g h t pivot)) refl))
 
-  module _ (low : (undivided_of g h t pivot).beyond ≡ false) where
+  module _ {c : Combination} (made : undivided_of g h t pivot ≡ Some c) where
+    all-passed : (every is_low (combinations part_count g h t pivot) ≡ true) × (c ≡ whole_row all-numbers)
+    all-passed =
+        some-passed (every is_low (combinations part_count g h t pivot))
+        (sym made ∙ undivided-is (every is_low (combinations part_count g h t pivot)) refl)
+
     all-low : every is_low (combinations part_count g h t pivot) ≡ true
-    all-low = cases (every is_low (combinations part_count g h t pivot)) refl
-      where
-        cases : (u : Bool) → every is_low (combinations part_count g h t pivot) ≡ u → every is_low (combinations part_count g h t pivot) ≡ true
-        cases true e = e
-        cases false e = absurd (true≢false (sym (ap (λ r. r.beyond) (undivided-is false e)) ∙ low))
+    all-low = all-passed.0
 
-    pub undivided-whole : undivided_of g h t pivot ≡ whole_row all-numbers
-    undivided-whole = undivided-is true all-low
+    pub undivided-whole : c ≡ whole_row all-numbers
+    undivided-whole = all-passed.1
 
     abbrev pub wholly : WorkingRow
     wholly = working_of (take entries_length all-numbers) (drop entries_length all-numbers)

@@ -1,7 +1,7 @@
 // Rule 4: a combination of two rows, its division by the content and its limits.
 #![tactic(auto)]
 
-ghost use Rattle.std.specs.Prelude.{◌≡◌, true, false, not, ◌&&◌, ◌+◌, ◌*◌, ◌/◌, ◌^◌, ◌≤◌, ◌<◌, max, T, eqb, pos, nat_abs, length, take, drop, replicate};
+ghost use Rattle.std.specs.Prelude.{◌≡◌, true, false, not, ◌&&◌, ◌+◌, ◌*◌, ◌/◌, ◌^◌, ◌≤◌, ◌<◌, T, eqb, pos, nat_abs, length, take, drop, replicate};
 ghost use Rattle.std.specs.Int.Signed.{lt_z};
 ghost use Rattle.algebra.specs.Polynomials.{is_zero_of, add, mul};
 ghost use Rattle.algebra.specs.Gcd.{gcd, content, divide_by};
@@ -12,18 +12,18 @@ ghost use Rattle.lists.specs.Tests.{every};
 ghost use Rattle.rules.specs.Stores.{row_of};
 ghost use Rattle.rules.specs.Elimination.{limit_coefficients, limit_degrees, consistent};
 ghost use Rattle.working_rows.specs.Working.{numbers_held, Full};
-ghost use Rattle.working_rows.specs.Worked.{refusal_of, worked_row};
-ghost use Rattle.combinations.specs.Combination.{few, both_within_of, trim, Shortened, low_part_of, low_sums, Counted, highest};
+ghost use Rattle.working_rows.specs.Worked.{Shown};
+ghost use Rattle.combinations.specs.Combination.{few, both_within_of, trim, Shortened, low_part_of, Counted, highest};
 ghost use Rattle.combinations.specs.Combination.{combinations, low_numbers};
 ghost use Rattle.combinations.specs.Primitive.{is_low};
-ghost use Rattle.combinations.specs.Parts.{sum_of, Known, SumsSaved, PartFits, PartMade, PartsFit, PartsMade};
-ghost use Rattle.combinations.specs.Undivided.{past_row, undivided_of, RowsFit, StoredFit, Divisible, divided_row_of};
+ghost use Rattle.combinations.specs.Parts.{sum_of, known_of, SumsSaved, PartFits, PartMade, PartsFit, PartsMade};
+ghost use Rattle.combinations.specs.Undivided.{undivided_of, RowsFit, StoredFit, Divisible, divided_row_of};
 ghost use Rattle.polynomials.specs.Content.{Below};
 
 use polynomials::lengths::COEFFICIENTS;
+use refusals::Refusal;
 use stores::lengths::{COLUMNS, ENTRIES};
 use working_rows::WorkingRow;
-use working_rows::limits::Worked;
 
 // The coefficients up to the highest nonzero one.
 fn trimmed(p: &[i64]) -> &[i64]
@@ -69,11 +69,9 @@ fn both_within(g: &[i64], h: &[i64], n: usize) -> bool
     ensures { result ≡ both_within_of n g.now h.now }
 {
     let mut joined = 0;
-    let mut i = n;
-    while i < COEFFICIENTS {
+    for i in n..COEFFICIENTS {
         joined |= g[i];
         joined |= h[i];
-        i += 1;
     }
     joined == 0
 }
@@ -98,12 +96,10 @@ fn passes(g: &[i64], p: &[i64], h: &[i64], q: &[i64], most: usize) -> bool
     requires most_value { most ≡ highest g.now p.now h.now q.now }
     ensures { result ≡ not (is_low (add (mul g.now p.now) (mul h.now q.now))) }
 {
-    let mut k = COEFFICIENTS;
-    while k <= most {
+    for k in COEFFICIENTS..=most {
         if products::combined_coefficient(g, p, h, q, k) != 0 {
             return true;
         }
-        k += 1;
     }
     false
 }
@@ -129,10 +125,8 @@ fn put_combined(place: &mut [i64], g: &[i64], p: &[i64], h: &[i64], q: &[i64])
     ensures { place.new ≡ take (length place.old)
         (low_part_of (add (mul g.now p.now) (mul h.now q.now))) }
 {
-    let mut k = 0;
-    while k < place.len() {
-        place[k] = products::combined_coefficient(g, p, h, q, k);
-        k += 1;
+    for (k, a) in place.iter_mut().enumerate() {
+        *a = products::combined_coefficient(g, p, h, q, k);
     }
 }
 
@@ -158,11 +152,9 @@ fn put_low(place: &mut [i64], g: &[i64], p: &[i64], h: &[i64], q: &[i64]) -> boo
     false
 }
 
-// What is known of polynomials that a combination has made, and of those before them: whether one has a degree past 15; if none has,
-// their content, and whether their coefficients are within ±C.
-#[derive(Drop)]
-struct Made {
-    beyond: bool,
+// What is known of the numbers that a combination has made so far: their content, and whether they are within ±C.
+#[derive(Clone, Copy)]
+struct Known {
     content: u64,
     within: bool,
 }
@@ -177,84 +169,46 @@ fn content_with(p: &[i64], d: u64) -> u64
     polynomials::content::content_with(d, p)
 }
 
-// What is known of numbers and of those before them, whose content is d.
-fn made_of(p: &[i64], d: u64, within: bool) -> Made
-    ensures { Known p.now d within result }
+// What is known of numbers and of those before them.
+fn known_with(p: &[i64], before: Known) -> Known
+    ensures { result ≡ known_of p.now before }
 {
-    Made {
-        beyond: false,
-        content: content_with(p, d),
-        within: within && stores::checks::all_small(p),
+    Known {
+        content: content_with(p, before.content),
+        within: before.within && stores::checks::all_small(p),
     }
 }
 
 // The sums at the front of a place, with what is known of them and of the numbers before.
-fn put_sums(place: &mut [i64], sums: &[i64], d: u64, within: bool) -> Made
+fn put_sums(place: &mut [i64], sums: &[i64], before: Known) -> Known
     requires { length sums.now ≤ length place.old }
-    ensures { SumsSaved sums.now d within place.old place.new result }
+    ensures { SumsSaved sums.now before place.old place.new result }
 {
     stores::rows::save(place, 0, sums);
-    made_of(sums, d, within)
+    known_with(sums, before)
 }
 
-// The lowest coefficients of g·p + h·q, as many as it can have where the multipliers are numbers and the polynomials have four.
-fn number_sums(g: &[i64], p: &[i64], h: &[i64], q: &[i64]) -> [i64; NUMBER_SUMS]
-    requires { Counted g.now × Counted p.now × Counted h.now × Counted q.now }
-    ensures { result ≡ low_sums 1 g.now p.now h.now q.now }
+// The lowest N coefficients of g·p + h·q.
+fn lowest_sums<const N: usize>(g: &[i64], p: &[i64], h: &[i64], q: &[i64]) -> [i64; N]
+    requires few { N ≤ coefficient_count }
+    requires counted { Counted g.now × Counted p.now × Counted h.now × Counted q.now }
+    ensures { result ≡ take N (low_part_of (add (mul g.now p.now) (mul h.now q.now))) }
 {
-    [
-        products::combined_coefficient(g, p, h, q, 0),
-        products::combined_coefficient(g, p, h, q, 1),
-        products::combined_coefficient(g, p, h, q, 2),
-        products::combined_coefficient(g, p, h, q, 3),
-    ]
-}
-
-// The same for multipliers of two coefficients.
-fn pair_sums(g: &[i64], p: &[i64], h: &[i64], q: &[i64]) -> [i64; PAIR_SUMS]
-    requires { Counted g.now × Counted p.now × Counted h.now × Counted q.now }
-    ensures { result ≡ low_sums 2 g.now p.now h.now q.now }
-{
-    [
-        products::combined_coefficient(g, p, h, q, 0),
-        products::combined_coefficient(g, p, h, q, 1),
-        products::combined_coefficient(g, p, h, q, 2),
-        products::combined_coefficient(g, p, h, q, 3),
-        products::combined_coefficient(g, p, h, q, 4),
-    ]
-}
-
-// The same for multipliers of four.
-fn four_sums(g: &[i64], p: &[i64], h: &[i64], q: &[i64]) -> [i64; FOUR_SUMS]
-    requires { Counted g.now × Counted p.now × Counted h.now × Counted q.now }
-    ensures { result ≡ low_sums few g.now p.now h.now q.now }
-{
-    [
-        products::combined_coefficient(g, p, h, q, 0),
-        products::combined_coefficient(g, p, h, q, 1),
-        products::combined_coefficient(g, p, h, q, 2),
-        products::combined_coefficient(g, p, h, q, 3),
-        products::combined_coefficient(g, p, h, q, 4),
-        products::combined_coefficient(g, p, h, q, 5),
-        products::combined_coefficient(g, p, h, q, 6),
-    ]
+    let mut sums = [0; N];
+    put_combined(&mut sums, g, p, h, q);
+    sums
 }
 
 // g·p + h·q in the place of p, unless its degree is past 15.
-fn any_part(place: &mut [i64], g: &[i64], h: &[i64], q: &[i64], d: u64, within: bool) -> Made
+fn any_part(place: &mut [i64], g: &[i64], h: &[i64], q: &[i64], before: Known) -> Option<Known>
     requires { PartFits g.now h.now place.old q.now }
-    ensures { PartMade (sum_of g.now h.now place.old q.now) d within
-        place.old place.new result }
+    ensures { PartMade (sum_of g.now h.now place.old q.now) before place.old place.new result }
 {
     let mut low = [0i64; COEFFICIENTS];
     if put_low(&mut low, g, shortened(place), h, shortened(q)) {
-        return Made {
-            beyond: true,
-            content: d,
-            within,
-        };
+        return None;
     }
-    put_sums(place, &low[..], d, within)
+    Some(put_sums(place, &low[..], before))
 }
 
 // Have both multipliers so many coefficients?
@@ -266,80 +220,61 @@ fn lengths_are(g: &[i64], h: &[i64], n: usize) -> bool
 
 // The same where p and q have four coefficients, which is most often the case: where g and h have one, two or four, the sums are few, and
 // no length has to be foretold.
-fn short_part(place: &mut [i64], g: &[i64], h: &[i64], q: &[i64], d: u64, within: bool) -> Made
+fn short_part(place: &mut [i64], g: &[i64], h: &[i64], q: &[i64], before: Known) -> Option<Known>
     requires { PartFits g.now h.now place.old q.now × (both_within_of few place.old q.now ≡ true) }
-    ensures { PartMade (sum_of g.now h.now place.old q.now) d within
-        place.old place.new result }
+    ensures { PartMade (sum_of g.now h.now place.old q.now) before place.old place.new result }
 {
     if lengths_are(g, h, SINGLE) {
-        let sums = number_sums(g, &place[..SHORT], h, &q[..SHORT]);
-        return put_sums(place, &sums[..], d, within);
+        let sums = lowest_sums::<NUMBER_SUMS>(g, &place[..SHORT], h, &q[..SHORT]);
+        return Some(put_sums(place, &sums[..], before));
     }
     if lengths_are(g, h, PAIR) {
-        let sums = pair_sums(g, &place[..SHORT], h, &q[..SHORT]);
-        return put_sums(place, &sums[..], d, within);
+        let sums = lowest_sums::<PAIR_SUMS>(g, &place[..SHORT], h, &q[..SHORT]);
+        return Some(put_sums(place, &sums[..], before));
     }
     if lengths_are(g, h, SHORT) {
-        let sums = four_sums(g, &place[..SHORT], h, &q[..SHORT]);
-        return put_sums(place, &sums[..], d, within);
+        let sums = lowest_sums::<FOUR_SUMS>(g, &place[..SHORT], h, &q[..SHORT]);
+        return Some(put_sums(place, &sums[..], before));
     }
-    any_part(place, g, h, q, d, within)
+    any_part(place, g, h, q, before)
 }
 
 // The same by whichever fits the lengths. Nothing is done where p and q are zero.
-fn put_part(place: &mut [i64], g: &[i64], h: &[i64], q: &[i64], d: u64, within: bool) -> Made
+fn put_part(place: &mut [i64], g: &[i64], h: &[i64], q: &[i64], before: Known) -> Option<Known>
     requires { PartFits g.now h.now place.old q.now }
-    ensures { PartMade (sum_of g.now h.now place.old q.now) d within
-        place.old place.new result }
+    ensures { PartMade (sum_of g.now h.now place.old q.now) before place.old place.new result }
 {
     if both_zero(place, q) {
-        return Made {
-            beyond: false,
-            content: d,
-            within,
-        };
+        return Some(before);
     }
     if both_within(place, q, SHORT) {
-        return short_part(place, g, h, q, d, within);
+        return short_part(place, g, h, q, before);
     }
-    any_part(place, g, h, q, d, within)
+    any_part(place, g, h, q, before)
 }
 
 // The polynomials g·p + h·q of two lists, each in the place of its p, up to the first whose degree is past 15. Behind the first `count` both
-// lists have zeros only. d and `within` are of numbers before.
+// lists have zeros only.
 fn put_parts(
     place: &mut [i64],
     g: &[i64],
     h: &[i64],
     pivot: &[i64],
     count: usize,
-    d: u64,
-    within: bool,
-) -> Made
+    before: Known,
+) -> Option<Known>
     requires count_le_polynomial_count { (count ≤ polynomial_count) × (count * coefficient_count ≤ length place.old) × (length pivot.now ≡ length place.old) }
     requires parts_fit { PartsFit count g.now h.now place.old pivot.now }
     ensures { PartsMade (combinations (length place.old / coefficient_count) g.now h.now
-        place.old pivot.now) d within place.new result }
+        place.old pivot.now) before place.new result }
 {
-    let mut content = d;
-    let mut small = within;
-    let mut e = 0;
-    while e < count {
+    let mut known = before;
+    for e in 0..count {
         let from = e * COEFFICIENTS;
         let to = from + COEFFICIENTS;
-        let made = put_part(&mut place[from..to], g, h, &pivot[from..to], content, small);
-        if made.beyond {
-            return made;
-        }
-        content = made.content;
-        small = made.within;
-        e += 1;
+        known = put_part(&mut place[from..to], g, h, &pivot[from..to], known)?;
     }
-    Made {
-        beyond: false,
-        content,
-        within: small,
-    }
+    Some(known)
 }
 
 // How many coefficients of both multipliers are gone over: one, two or four where there are no more.
@@ -370,95 +305,60 @@ fn front_of(p: &[i64], n: usize) -> &[i64]
     trimmed(p)
 }
 
-// The row g × target + h × pivot, not yet divided: whether a degree is past 15; if none is, its content, whether its coefficients are
-// within ±C, and the row.
+// The row g × target + h × pivot, not yet divided: its content, whether its coefficients are within ±C, and the row.
 #[derive(Drop)]
 pub struct Combination {
-    pub beyond: bool,
     pub content: u64,
     pub within: bool,
     pub row: WorkingRow,
 }
 
-fn past() -> Combination
-    ensures { result ≡ past_row }
-{
-    let row = WorkingRow {
-        entries: [0; ENTRIES],
-        right: [0; COEFFICIENTS],
-        width: 0,
-    };
-    Combination {
-        beyond: true,
-        content: 0,
-        within: true,
-        row,
-    }
-}
-
-fn wider(a: usize, b: usize) -> usize
-    ensures { result ≡ max a b }
-{
-    if a < b { b } else { a }
-}
-
-// Rule 4's row before its division (SCOPE 2.41, 2.43). The pivot is looked at where it stands; `width` is its width.
+// Rule 4's row before its division, unless a degree is past 15 (SCOPE 2.41, 2.43). The pivot is looked at where it stands; `width` is its
+// width.
 pub fn undivided(
     g: &[i64],
     h: &[i64],
     target: WorkingRow,
     pivot: &[i64],
     width: usize,
-) -> Combination
+) -> Option<Combination>
     requires { RowsFit g.now h.now target pivot.now width }
     ensures { result ≡ undivided_of g.now h.now (numbers_held target) pivot.now }
 {
     let n = common_length(g, h);
     let a = front_of(g, n);
     let b = front_of(h, n);
-    let blocks = wider(target.width, width);
+    let blocks = target.width.max(width);
     let mut entries = target.entries;
     let mut right = target.right;
+    let none = Known {
+        content: 0,
+        within: true,
+    };
     let left = put_parts(
         &mut entries,
         a,
         b,
         &pivot[..ENTRIES],
         blocks * COLUMNS,
-        0,
-        true,
-    );
-    if left.beyond {
-        return past();
-    }
-    let all = put_parts(
-        &mut right,
-        a,
-        b,
-        &pivot[ENTRIES..],
-        1,
-        left.content,
-        left.within,
-    );
-    if all.beyond {
-        return past();
-    }
+        none,
+    )?;
+    let all = put_parts(&mut right, a, b, &pivot[ENTRIES..], 1, left)?;
     let after = working_rows::entries::width_within(&entries[..], blocks);
     let row = WorkingRow {
         entries,
         right,
         width: after,
     };
-    Combination {
-        beyond: false,
+    Some(Combination {
         content: all.content,
         within: all.within,
         row,
-    }
+    })
 }
 
 // The same of two rows that a store holds.
-pub fn undivided_stored(g: &[i64], h: &[i64], target: &[i64], pivot: &[i64]) -> Combination
+pub fn undivided_stored(g: &[i64], h: &[i64], target: &[i64], pivot: &[i64]) -> Option<Combination>
     requires { StoredFit g.now h.now target.now pivot.now }
     ensures { result ≡ undivided_of g.now h.now target.now pivot.now }
 {
@@ -487,30 +387,27 @@ fn divide_parts(numbers: &mut [i64], count: usize, d: i64)
     requires below { Below (2 ^ 63) numbers.old × T (lt_z (pos 0) d) }
     ensures { numbers.new ≡ divide_by (nat_abs d) numbers.old }
 {
-    let mut e = 0;
-    while e < count {
+    for e in 0..count {
         let from = e * COEFFICIENTS;
         let to = from + COEFFICIENTS;
         divide_part(&mut numbers[from..to], d);
-        e += 1;
     }
 }
 
 // A row within its limits: a coefficient past ±C is refused with 8, a row whose left part alone is zero with 10 (SCOPE 2.44, 2.46).
-fn limited(row: WorkingRow, within: bool) -> Worked
+fn limited(row: WorkingRow, within: bool) -> Result<WorkingRow, Refusal>
     requires { Full row × (row.width ≡ Rows.width (row_of row.entries)) × (within ≡ every small (numbers_held row)) }
-    ensures refusal_value { result.refusal ≡ refusal_of (consistent (limit_coefficients (row_of (numbers_held row)))) }
-    ensures row_value { result.row ≡ worked_row (consistent (limit_coefficients (row_of (numbers_held row)))) }
+    ensures { Shown result (consistent (limit_coefficients (row_of (numbers_held row)))) }
 {
     if !within {
-        return working_rows::limits::broken(8);
+        return Err(Refusal::CoefficientPassed);
     }
     if row.width == 0 {
         if !polynomials::content::is_zero(&row.right) {
-            return working_rows::limits::broken(10);
+            return Err(Refusal::Contradiction);
         }
     }
-    Worked { refusal: 0, row }
+    Ok(row)
 }
 
 // Are all numbers of both parts within ±C?
@@ -521,10 +418,9 @@ fn both_small(entries: &[i64], right: &[i64]) -> bool
 }
 
 // A row divided by d, which divides all its coefficients (SCOPE 2.42), within its limits.
-fn divided(row: WorkingRow, d: i64) -> Worked
+fn divided(row: WorkingRow, d: i64) -> Result<WorkingRow, Refusal>
     requires { Divisible row d }
-    ensures refusal_value { result.refusal ≡ refusal_of (consistent (limit_coefficients (divided_row_of row d))) }
-    ensures row_value { result.row ≡ worked_row (consistent (limit_coefficients (divided_row_of row d))) }
+    ensures { Shown result (consistent (limit_coefficients (divided_row_of row d))) }
 {
     let width = row.width;
     let mut entries = row.entries;
@@ -545,17 +441,20 @@ fn divided(row: WorkingRow, d: i64) -> Worked
 // degree, so the degrees are looked at first. Not compiled in line: its rows would take stack below the search for roots, which is the
 // deepest call.
 #[inline(never)]
-pub fn combined(g: &[i64], h: &[i64], target: WorkingRow, pivot: &[i64], width: usize) -> Worked
+pub fn combined(
+    g: &[i64],
+    h: &[i64],
+    target: WorkingRow,
+    pivot: &[i64],
+    width: usize,
+) -> Result<WorkingRow, Refusal>
     requires { RowsFit g.now h.now target pivot.now width }
-    ensures refusal_value { result.refusal ≡ refusal_of (consistent (limit_degrees (primitive (combine g.now h.now
-        (row_of (numbers_held target)) (row_of pivot.now))))) }
-    ensures row_value { result.row ≡ worked_row (consistent (limit_degrees (primitive (combine g.now h.now
+    ensures { Shown result (consistent (limit_degrees (primitive (combine g.now h.now
         (row_of (numbers_held target)) (row_of pivot.now))))) }
 {
-    let u = undivided(g, h, target, pivot, width);
-    if u.beyond {
-        return working_rows::limits::broken(7);
-    }
+    let Some(u) = undivided(g, h, target, pivot, width) else {
+        return Err(Refusal::DegreePassed);
+    };
     let row = u.row;
     let d = u.content;
     if 1 < d {

@@ -10,7 +10,7 @@
 --   divide_at-fewer        it makes no integer occur more often in the target's entry
 --   divide_at-least        there are no more divisions by n - r than r occurs in the one of both that has it less often
 --   divide_each-common     at a root of the pivot's entry alone nothing is divided
---   counts-less           how often each root occurs, after divisions at one of them
+--   listed-at, listed-less   one of the roots with how often it occurs, and all of them after divisions at one
 use Prim.Native.Nat.{ℕ, zero, suc, min, ◌+◌, ◌-◌, ◌≤◌, ◌<◌}
 use Rattle.std.specs.Prelude.{◌≡◌, ◌≢◌, Bool, not, ◌&&◌, T, ltb, ℤ, pos, nat_abs, ◌-ℤ◌, ◌*ℤ◌, length, get_or, set, replicate, ◌<ℤ◌}
 use Rattle.std.proofs.Math.Path.{refl, sym, ap}
@@ -18,12 +18,11 @@ use Rattle.std.proofs.Common.{◌∙◌, ap₂, subst, le_trans, le_of_eq, not-s
 use Rattle.std.proofs.Math.Logic.{by_cases}
 use Rattle.std.proofs.Math.Bool.{true, false, cond, and-false}
 use mathlib.Core.List.Pairwise
-use mathlib.Core.List.{List, [], ◌∷◌, ◌++◌, map, map_congr_left, rel_of_Pairwise-cons}
+use mathlib.Core.List.{List, [], ◌∷◌, ◌++◌, map, map-map, map_congr_left, rel_of_Pairwise-cons}
 use Rattle.std.proofs.Math.Decide.{dec_le}
 use Rattle.std.proofs.Math.Dec.{not_T}
 use Rattle.std.proofs.Math.IntN.{*ℤ-zero}
 use Rattle.std.proofs.lemmas.List.{length-map, set-append_left}
-use Rattle.std.proofs.Math.ListN.{get_or-append}
 use Rattle.std.specs.Int.Signed.{<ℤ_irrefl}
 use Rattle.algebra.specs.Integers.{ringℤ, -ℤ-zero}
 use Rattle.algebra.specs.Polynomials.{Polynomial, eval, is_zero_of, is_zero_ℤ-iff, is_zero-cons, quotient, mul, eval_mul, eval-is_zero}
@@ -37,7 +36,9 @@ use Rattle.lists.specs.Tests.{every, true_of, false_of, true-T, both_true, dec-T
 use Rattle.rules.specs.Limits.{small, coefficient_count}
 use Rattle.rules.specs.CommonRoots.{Entries, divide_at, divide_each, divisible, quotients}
 use Rattle.roots.specs.Ascending.{Ascending, first_below}
-use Rattle.multiplicities.specs.Counts.{counts}
+use Rattle.multiplicities.specs.declared.Root.{Root}
+use Rattle.multiplicities.specs.declared.RootsWith.{RootsWith}
+use Rattle.multiplicities.specs.Counts.{root_of, no_root, listed_with, times_in, length-times, root-at}
 use Rattle.multiplicities.specs.Divisions.{divisions-none, divisions-more, multiplicity-most}
 use Rattle.common_roots.specs.Divisions.{vanishes_at, divides, divisible-both, divide_at-none}
 
@@ -264,7 +265,7 @@ divide_each-common k (r ∷ rs) b e among =
 -- ---- how often each root occurs
 
 -- One value of a function, at a number that stands once in an ascending list.
-map-changed : (f g : ℤ → ℕ) (rs : List ℤ) (i : ℕ) → Ascending rs → i < length rs → ((x : ℤ) → x ≢ get_or rs i (pos 0) → g x ≡ f x)
+map-changed : {A : Type 0} (f g : ℤ → A) (rs : List ℤ) (i : ℕ) → Ascending rs → i < length rs → ((x : ℤ) → x ≢ get_or rs i (pos 0) → g x ≡ f x)
     → set (map f rs) i (g (get_or rs i (pos 0))) ≡ map g rs
 map-changed f g [] i a h same = absurd (not-suc-le-zero h)
 map-changed f g (r ∷ rs) zero a h same =
@@ -275,16 +276,30 @@ map-changed f g (r ∷ rs) (suc i) a h same =
     ap₂ ◌∷◌ (sym (same r (λ e. <ℤ_irrefl (subst (λ y. r <ℤ y) (sym e) apart))))
     (map-changed f g rs i (Pairwise.of_cons a) inside same)
 
-pub counts-at : (p : Polynomial) (rs : List ℤ) (i : ℕ) → i < length rs → get_or (counts p rs) i 0 ≡ multiplicity p (get_or rs i (pos 0))
-counts-at p rs i h =
-    get_or-append (map (multiplicity p) rs) (replicate (16 - length rs) 0) 0 i (rw (length-map rs (multiplicity p)) h)
-    ∙ get_or_map (multiplicity p) rs i (pos 0) 0 h
+module _ {w : RootsWith} (p : Polynomial) (rs : List ℤ) (e : w ≡ listed_with (times_in p rs)) (i : ℕ) (h : i < length rs) where
+  abbrev r : ℤ
+  r = get_or rs i (pos 0)
 
-pub counts-less : (p q : Polynomial) (rs : List ℤ) (i n : ℕ) → Ascending rs → i < length rs → Lessened (get_or rs i (pos 0)) n p q
-    → set (counts p rs) i (get_or (counts p rs) i 0 - n) ≡ counts q rs
-counts-less p q rs i n a h l =
-    let left : get_or (counts p rs) i 0 - n ≡ multiplicity q (get_or rs i (pos 0)) = omega (arith, counts-at p rs i h, l.here) in
-    ap (set (counts p rs) i) left
-    ∙ set-append_left (map (multiplicity p) rs) (replicate (16 - length rs) 0) i (multiplicity q (get_or rs i (pos 0)))
-    (rw (length-map rs (multiplicity p)) h)
-    ∙ ap (λ m. m ++ replicate (16 - length rs) 0) (map-changed (multiplicity p) (multiplicity q) rs i a h l.elsewhere)
+  pub listed-at : get_or w.roots i no_root ≡ root_of (r, multiplicity p r)
+  listed-at =
+      root-at (times_in p rs) e i (rw (length-times p rs) h)
+      ∙ ap root_of (get_or_map (λ x. (x, multiplicity p x)) rs i (pos 0) (pos 0, 0) h)
+
+  pub listed-less : (q : Polynomial) (n : ℕ) → Ascending rs → Lessened r n p q
+      → record { count = w.count; roots = set w.roots i (root_of (r, multiplicity p r - n)) } ≡ listed_with (times_in q rs)
+  listed-less q n a l =
+      let left : multiplicity p r - n ≡ multiplicity q r = omega (arith, l.here) in
+      let size = length-times p rs ∙ sym (length-times q rs) in
+      let changed = ap (λ m. set m i (f q r)) (map-map root_of (λ x. (x, multiplicity p x)) rs)
+      ∙ map-changed (f p) (f q) rs i a h (λ x apart. ap (λ k. root_of (x, k)) (l.elsewhere x apart))
+      ∙ sym (map-map root_of (λ x. (x, multiplicity q x)) rs) in
+      ap₂ (λ v k. record { count = v.count; roots = set v.roots i (root_of (r, k)) }) e left
+      ∙ ap₂ (λ k v. record { count = k; roots = v }) size
+      (set-append_left (map root_of (times_in p rs)) (replicate (16 - length (times_in p rs)) no_root) i (f q r) inside
+      ∙ ap₂ (λ v k. v ++ replicate (16 - k) no_root) changed size)
+    where
+      f : Polynomial → ℤ → Root
+      f q x = root_of (x, multiplicity q x)
+
+      inside : i < length (map root_of (times_in p rs))
+      inside = rw (length-map (times_in p rs) root_of, length-times p rs) h

@@ -33,7 +33,7 @@ use Rattle.theory.specs.Reduced.{reduced-divides, reduced-nonzero}
 use Rattle.roots.specs.Ascending.{Ascending, ascending-unique}
 use Rattle.roots.specs.RootSearch.{roots-constant}
 use Rattle.multiplicities.specs.declared.RootsWith.{RootsWith}
-use Rattle.multiplicities.specs.Counts.{listed_with, times_in}
+use Rattle.multiplicities.specs.Counts.{root_of, no_root, listed_with, times_in}
 use Rattle.common_roots.specs.Divisions.{vanishes_at}
 use Rattle.common_roots.specs.DividedTimes.{vanishes-count}
 
@@ -70,28 +70,23 @@ keep-map {A} f t s same (x ∷ l) =
 
 -- One pair more behind the listed ones.
 abbrev longer : ℤ × ℕ → RootsWith → RootsWith
-longer x w = record { count = w.count + 1; values = set w.values w.count x.0; times = set w.times w.count x.1 }
+longer x w = record { count = w.count + 1; roots = set w.roots w.count (root_of x) }
 
 module _ {w : RootsWith} (l : List (ℤ × ℕ)) (x : ℤ × ℕ) (h : length l < 16) (e : w ≡ listed_with l) where
   size : length (l ++ (x ∷ [])) ≡ length l + 1
   size = length-append l (x ∷ [])
 
-  filled : {A : Type 0} (f : ℤ × ℕ → A) (zero : A)
-      → set (map f l ++ replicate (16 - length l) zero) (length l) (f x)
-      ≡ map f (l ++ (x ∷ [])) ++ replicate (16 - length (l ++ (x ∷ []))) zero
-  filled f zero =
+  filled : set (map root_of l ++ replicate (16 - length l) no_root) (length l) (root_of x)
+      ≡ map root_of (l ++ (x ∷ [])) ++ replicate (16 - length (l ++ (x ∷ []))) no_root
+  filled =
       let room : 16 - length l ≡ suc (16 - length (l ++ (x ∷ []))) = omega (arith, size) in
-      let rest = replicate (16 - length (l ++ (x ∷ []))) zero in
-      ap₂ (λ n k. set (map f l ++ replicate n zero) k (f x)) room (sym (length-map l f))
-      ∙ set-append_seam (map f l) zero rest (f x) ∙ sym (append_snoc (map f l) (f x) rest)
-      ∙ ap (λ m. m ++ rest) (sym (map-append f l (x ∷ [])))
+      let rest = replicate (16 - length (l ++ (x ∷ []))) no_root in
+      ap₂ (λ n k. set (map root_of l ++ replicate n no_root) k (root_of x)) room (sym (length-map l root_of))
+      ∙ set-append_seam (map root_of l) no_root rest (root_of x) ∙ sym (append_snoc (map root_of l) (root_of x) rest)
+      ∙ ap (λ m. m ++ rest) (sym (map-append root_of l (x ∷ [])))
 
   listed-longer : longer x w ≡ listed_with (l ++ (x ∷ []))
-  listed-longer =
-      ap (longer x) e
-      ∙ ap₂ (λ n v. record { count = n; values = v; times = set (listed_with l).times (length l) x.1 }) (sym size)
-      (filled (λ y. y.0) (pos 0))
-      ∙ ap (λ v. record { count = length (l ++ (x ∷ [])); values = (listed_with (l ++ (x ∷ []))).values; times = v }) (filled (λ y. y.1) 0)
+  listed-longer = ap (longer x) e ∙ ap₂ (λ n v. record { count = n; roots = v }) (sym size) filled
 
 -- A number occurs where its count is not 0.
 abbrev pub occurs : ℤ × ℕ → Bool

@@ -3,7 +3,7 @@
 // of `rules` or of `specs/`.
 #![tactic(auto)]
 
-ghost use Rattle.std.specs.Prelude.{◌≡◌, not, ◌++◌, min, ◌≤◌, T, nat_abs, length};
+ghost use Rattle.std.specs.Prelude.{◌≡◌, not, ◌++◌, ◌≤◌, T, nat_abs, length};
 ghost use Rattle.algebra.specs.Polynomials.{is_zero_of};
 ghost use Rattle.algebra.specs.Roots as Roots;
 ghost use Rattle.lists.specs.Sifted.{keep};
@@ -11,22 +11,17 @@ ghost use Rattle.rules.specs.Limits.{bound, coefficient_count};
 ghost use Rattle.rules.specs.CommonRoots.{divide_at};
 ghost use Rattle.rules.specs.CommonRoots as CommonRoots;
 ghost use Rattle.rules.specs.Elimination as Elimination;
-ghost use Rattle.multiplicities.specs.Counts.{listed_with, held_with, times_in, counts};
+ghost use Rattle.multiplicities.specs.Counts.{listed_with, held_with, times_in};
 ghost use Rattle.common_roots.specs.Amended.{both};
-ghost use Rattle.common_roots.specs.Divisions.{Sixteen, Fits, Divided, entries_of};
+ghost use Rattle.common_roots.specs.Divisions.{Sixteen, Fits, entries_of};
 ghost use Rattle.common_roots.specs.DividedTimes.{made_at};
 ghost use Rattle.common_roots.specs.Kept.{occurs};
 
-use multiplicities::RootsWith;
+use multiplicities::{Root, RootsWith};
 use polynomials::lengths::COEFFICIENTS;
-use roots::RootList;
 
-// A polynomial divided by n - r, where that may be done: `exact` says so.
-#[derive(Drop)]
-struct Quotient {
-    exact: bool,
-    values: [i64; COEFFICIENTS],
-}
+// C, past which no coefficient of a quotient goes.
+const LARGEST: u64 = 268_435_455;
 
 // The leading entries that rule 2 takes its multipliers from: that of row j, whose column it is, and that of row i.
 #[derive(Drop)]
@@ -46,33 +41,7 @@ struct Divisions {
 #[derive(Drop)]
 struct Reduced {
     entries: Entries,
-    times: [usize; 16],
-}
-
-// By Horner's rule from the top: each value on the way is a coefficient of the quotient, and the last one the remainder. A coefficient
-// past ±C ends the division, so that no value is larger than a product of two numbers within ±C and one more.
-fn divided(p: &[i64], r: i64) -> Quotient
-    requires { Sixteen p.now × (nat_abs r ≤ bound) }
-    ensures { Divided r p.now result }
-{
-    let mut q = [0; COEFFICIENTS];
-    let mut value = 0;
-    let mut i = COEFFICIENTS - 1;
-    while 0 < i {
-        value = value * r + p[i];
-        if !integers::within_bound(value) {
-            return Quotient {
-                exact: false,
-                values: q,
-            };
-        }
-        i -= 1;
-        q[i] = value;
-    }
-    Quotient {
-        exact: value * r + p[0] == 0,
-        values: q,
-    }
+    roots: RootsWith,
 }
 
 // As long as both vanish at r and no quotient passes ±C, so many times at most: both quotients are taken, or neither.
@@ -81,38 +50,26 @@ fn divided_at(entries: Entries, r: i64, times: usize) -> Divisions
     ensures fits { Fits result.entries × (entries_of result.entries ≡ divide_at times r (entries_of entries)) }
     ensures made_value { result.made ≡ made_at times r (entries_of entries) }
 {
-    let mut pivot = entries.pivot;
-    let mut target = entries.target;
-    let mut made = 0;
-    while made < times {
-        let p = divided(&pivot[..], r);
-        if !p.exact {
+    let mut left = entries;
+    for made in 0..times {
+        let Some(pivot) = multiplicities::divided(&left.pivot, r, LARGEST) else {
             return Divisions {
                 made,
-                entries: Entries { pivot, target },
+                entries: left,
             };
-        }
-        let q = divided(&target[..], r);
-        if !q.exact {
+        };
+        let Some(target) = multiplicities::divided(&left.target, r, LARGEST) else {
             return Divisions {
                 made,
-                entries: Entries { pivot, target },
+                entries: left,
             };
-        }
-        pivot = p.values;
-        target = q.values;
-        made += 1;
+        };
+        left = Entries { pivot, target };
     }
     Divisions {
-        made,
-        entries: Entries { pivot, target },
+        made: times,
+        entries: left,
     }
-}
-
-fn smaller(a: usize, b: usize) -> usize
-    ensures { result ≡ min a b }
-{
-    if a <= b { a } else { b }
 }
 
 // One root of the pivot after the other, ascending as they are listed: it is divided out as often as it occurs in both
@@ -121,24 +78,20 @@ fn divided_each(entries: Entries, found: RootsWith, other: RootsWith) -> Reduced
     requires { Fits entries × T (not (is_zero_of entries.pivot)) × (found ≡ listed_with (Elimination.roots_with_of entries.pivot))
         × (other ≡ listed_with (times_in entries.target (Roots.roots entries.pivot))) }
     ensures fits { Fits result.entries × (entries_of result.entries ≡ CommonRoots.reduced (entries_of entries)) }
-    ensures times_value { result.times ≡ counts result.entries.pivot (Roots.roots entries.pivot) }
+    ensures roots_value { result.roots ≡ listed_with (times_in result.entries.pivot (Roots.roots entries.pivot)) }
 {
-    let n = found.count;
-    let values = found.values;
-    let others = other.times;
-    let mut times = found.times;
     let mut e = entries;
-    let mut left = n;
-    while 0 < left {
-        let i = n - left;
-        let r = values[i];
-        let d = divided_at(e, r, smaller(times[i], others[i]));
-        times[i] -= d.made;
-        let next = d.entries;
-        e = next;
-        left -= 1;
+    let mut left = found;
+    for i in 0..left.count {
+        let root = left.roots[i];
+        let d = divided_at(e, root.value, root.times.min(other.roots[i].times));
+        left.roots[i].times = root.times - d.made;
+        e = d.entries;
     }
-    Reduced { entries: e, times }
+    Reduced {
+        entries: e,
+        roots: left,
+    }
 }
 
 // Those of the listed numbers that occur, each with how often.
@@ -146,28 +99,17 @@ fn occurring(all: RootsWith) -> RootsWith
     requires { (all ≡ listed_with (held_with all)) × (length (held_with all) ≤ 16) }
     ensures { result ≡ listed_with (keep occurs (held_with all)) }
 {
-    let n = all.count;
-    let from = all.values;
-    let often = all.times;
-    let mut values = [0; 16];
-    let mut times: [usize; 16] = [0; 16];
-    let mut count = 0;
-    let mut i = 0;
-    while i < n {
-        let r = from[i];
-        let k = often[i];
-        if 0 < k {
-            values[count] = r;
-            times[count] = k;
-            count += 1;
+    let mut kept = RootsWith {
+        count: 0,
+        roots: [Root { value: 0, times: 0 }; 16],
+    };
+    for root in &all.roots[..all.count] {
+        if 0 < root.times {
+            kept.roots[kept.count] = *root;
+            kept.count += 1;
         }
-        i += 1;
     }
-    RootsWith {
-        count,
-        values,
-        times,
-    }
+    kept
 }
 
 // Where there are common roots. What is left of a has no root that a has not: its roots are those of a that still occur,
@@ -189,19 +131,9 @@ fn put_divided(
 {
     let pivot = polynomials::content::copied(a);
     let target = polynomials::content::copied(b);
-    let count = found.count;
-    let values = found.values;
     let d = divided_each(Entries { pivot, target }, found, other);
-    let e = d.entries;
-    let left = e.pivot;
-    let rest = e.target;
-    let times = d.times;
-    polynomials::content::put_multipliers(g, h, &left[..], &rest[..]);
-    occurring(RootsWith {
-        count,
-        values,
-        times,
-    })
+    polynomials::content::put_multipliers(g, h, &d.entries.pivot, &d.entries.target);
+    occurring(d.roots)
 }
 
 // Rule 2's multipliers put into g and h: the integer roots of g, ascending, each with how often it occurs (SCOPE 2.84).
@@ -216,13 +148,12 @@ pub fn put_multipliers(g: &mut [i64], h: &mut [i64], a: &[i64], b: &[i64]) -> Ro
     ensures value { result ≡ listed_with (Elimination.roots_with_of (Elimination.multipliers a.now b.now).g) }
 {
     polynomials::content::put_multipliers(g, h, a, b);
-    let found = multiplicities::roots_with(g);
-    let count = found.count;
-    if count == 0 {
+    let roots = roots::roots(g);
+    let found = multiplicities::each_with_times(g, roots);
+    if roots.count == 0 {
         return found;
     }
-    let values = found.values;
-    let other = multiplicities::each_with_times(b, RootList { count, values });
+    let other = multiplicities::each_with_times(b, roots);
     let common = occurring(other);
     if common.count == 0 {
         found

@@ -1,7 +1,7 @@
 -- The constant rows as a program makes them, one after another in a store.
 --
 -- Main definitions
---   judged_of e           what an `Entry` says: its value, or the limit that it passes
+--   judged_of e           what an entry's result says: its value, or the limit that it passes
 --   polynomial_there l r n i c   what stands in an equation at n, at index i and unknown c
 --   row_at z N e          the constant row of an equation at its n, or of a relation
 --   at_index n rows       the equations at n
@@ -13,9 +13,13 @@
 --   each_both, each-stops, each-stopped, each-one   what is made of two lists, one behind the other
 --   unmet-before, unmet-behind, zeros-made   the entries of columns that an equation does not meet are 0, and made by zeros
 --   reports-made, reports-passed   what a refusal number tells
+--   told-made, told-passed, refused-reports   what a result tells, and what a call that ends by `?` reports
+--   told-of, told-refused, judged-refused    what is told by a result, at its two ends
+--   told-fine, told-stopped                  what is known from it
 --   matrix-put           the rows of a store after a part of it was written
 use Prim.Native.Nat.{ℕ, zero, suc, ◌+◌, ◌*◌, ◌-◌, ◌/◌, ◌%◌, ◌≤◌, ◌<◌, zero-le}
-use Rattle.std.proofs.Common.{le_refl, lt_of_le_of_lt, zero-add, add-zero, suc-mul, mul_assoc, not-suc-le-zero, mod-eq_of_lt, le_of_eq, div-lt_iff_lt-mul, le-div_iff_mul-le, add-one, sym, ◌∙◌, take-append-drop, length-drop, take_at, drop_at, length-take-le, get_or-take, get_or-drop, drop-drop, ltb-true}
+use Rattle.std.specs.Prelude.{Result}
+use Rattle.std.proofs.Common.{Ok, Err, le_refl, lt_of_le_of_lt, zero-add, add-zero, suc-mul, mul_assoc, not-suc-le-zero, mod-eq_of_lt, le_of_eq, div-lt_iff_lt-mul, le-div_iff_mul-le, add-one, sym, ◌∙◌, take-append-drop, length-drop, take_at, drop_at, length-take-le, get_or-take, get_or-drop, drop-drop, ltb-true}
 use Rattle.std.proofs.Math.Nat.{mul-add-div_right, div-eq_of_lt, mul-add-mod_self_right}
 use native.Mathlib.Omega.{arith}
 use borrow.Rule.Slice.PartMut.{put_mid, post_of, same_len_mid, mid_len, drop_put}
@@ -53,13 +57,15 @@ use Rattle.constant_rows.specs.Constants.{Judged, fine, passed, and_on, each, ju
 use Rattle.constant_rows.specs.Constants.{row_indices}
 use Rattle.constant_rows.specs.ListLengths.{list_columns}
 use Rattle.constant_rows.specs.RowLimits.{Limits}
-use Rattle.constant_rows.specs.Matrices.{matrix_rows, Reports}
-use Rattle.constant_rows.specs.declared.Entry.{Entry}
-use Rattle.constant_rows.specs.declared.Entry.TheVariants.{Fine, Passed}
+use Rattle.constant_rows.specs.Matrices.{matrix_rows, Reports, Told, judged_with}
+use Rattle.refusals.specs.declared.Refusal.{Refusal}
+use Rattle.refusals.specs.Refusals.{number_of, refusal_in, number-nonzero}
+use Rattle.std.specs.Result.{IsErrAnd}
+use Rattle.std.proofs.lemmas.Result.{err_from_is_err_and}
 
-unfoldable pub judged_of : Entry → Judged ℤ
-judged_of (Fine v) = fine v
-judged_of (Passed n) = passed n
+abbrev pub judged_of : Result ℤ Refusal → Judged ℤ
+judged_of (Ok v) = fine v
+judged_of (Err r) = passed (number_of r)
 
 unfoldable pub row_at : Sizes → ℕ → Relation → Judged (List ℤ)
 unfolding constant_row_of
@@ -338,6 +344,54 @@ module _ {A : Type 0} (P : A → Type 0) where
   pub passed-reports : (j : Judged A) (n : ℕ) → j ≡ passed n → Reports P j n
   unfolding Reports
   passed-reports j n e = subst (λ k. Reports P k n) (sym e) refl
+
+-- What a result tells, and what the exit of a `?` reports.
+pub told-made : {A B : Type 0} (P : A → Type 0) (j : Judged A) (result : Result B Refusal) (b : B) → Limits j → Reports P j (refusal_in result)
+    → result ≡ Ok b → (a : A) × (j ≡ fine a) × P a
+told-made P j result b l h e = reports-made P j (refusal_in result) l h (ap refusal_in e)
+
+pub told-passed : {A B : Type 0} (P : A → Type 0) (j : Judged A) (result : Result B Refusal) (r : Refusal) → Reports P j (refusal_in result)
+    → result ≡ Err r → j ≡ passed (number_of r)
+told-passed P j result r h e =
+    let told : refusal_in result ≡ number_of r = ap refusal_in e in
+    reports-passed P j (number_of r) (subst (Reports P j) told h) (number-nonzero r)
+
+pub refused-reports : {A B : Type 0} (P : A → Type 0) (j : Judged A) (result : Result B Refusal) (r : Refusal) → IsErrAnd result (λ e. e ≡ r)
+    → j ≡ passed (number_of r) → Reports P j (refusal_in result)
+refused-reports P j result r h e =
+    let told = err_from_is_err_and result h in
+    rw (told.1, told.2) (passed-reports P j (number_of r) e)
+
+pub told-of : {A B : Type 0} (P : B → A → Type 0) (j : Judged A) (b : B) (a : A) → j ≡ fine a → P b a → Told P j (Ok b)
+told-of P j b a e p = subst (λ k. Told P k (Ok b)) (sym e) p
+
+pub told-refused : {A B : Type 0} (P : B → A → Type 0) (j : Judged A) (result : Result B Refusal) (r : Refusal) → IsErrAnd result (λ e. e ≡ r)
+    → j ≡ passed (number_of r) → Told P j result
+told-refused P j result r h e =
+    let told = err_from_is_err_and result h in
+    rw (told.1, told.2) (subst (λ k. Told P k (Err r)) (sym e) refl)
+
+pub told-fine : {A B : Type 0} (P : B → A → Type 0) (j : Judged A) (result : Result B Refusal) (b : B) → Told P j result → result ≡ Ok b
+    → (a : A) × (j ≡ fine a) × P b a
+told-fine {A = A} P j result b t e = go j (subst (Told P j) e t)
+  where
+    go : (j : Judged A) → Told P j (Ok b) → (a : A) × (j ≡ fine a) × P b a
+    go (fine a) t = (a, refl, t)
+    go (passed n) t = absurd t
+
+pub told-stopped : {A B : Type 0} (P : B → A → Type 0) (j : Judged A) (result : Result B Refusal) (r : Refusal) → Told P j result
+    → result ≡ Err r → j ≡ passed (number_of r)
+told-stopped {A = A} P j result r t e = go j (subst (Told P j) e t)
+  where
+    go : (j : Judged A) → Told P j (Err r) → j ≡ passed (number_of r)
+    go (fine a) t = absurd t
+    go (passed n) t = ap passed (sym t)
+
+pub judged-refused : {A B : Type 0} (result : Result B Refusal) (r : Refusal) (a : A) → IsErrAnd result (λ e. e ≡ r)
+    → judged_with result a ≡ passed (number_of r)
+judged-refused result r a h =
+    let told = err_from_is_err_and result h in
+    rw (told.1, told.2) refl
 
 -- What is made behind what is there.
 pub reports-behind : {A : Type 0} (f : A → Judged (List ℤ)) (P Q : List (List ℤ) → Type 0) (xs ys : List A) (a : List (List ℤ)) (r : ℕ)

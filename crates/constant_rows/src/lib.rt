@@ -10,36 +10,31 @@ ghost use Rattle.rules.specs.Limits.{bound, block_bound, small, row_length, bloc
 ghost use Rattle.rules.specs.Stores as Stores;
 ghost use Rattle.sides.specs.Lent.{Kept};
 ghost use Rattle.stores.specs.Validity.{the_sizes_of};
+ghost use Rattle.refusals.specs.Refusals.{refusal_in};
 ghost use Rattle.constant_rows.specs.Constants as Constants;
 ghost use Rattle.constant_rows.specs.ListLengths.{largest_index, list_columns, matrix_need};
 ghost use Rattle.constant_rows.specs.Matrices.{matrix_rows, Reports};
 ghost use Rattle.constant_rows.specs.ConstantStores.{judged_of, row_at, at_index, polynomial_there, Clamped};
 
-use evaluation::Formed;
 use lengths::LIST_COLUMNS;
 use polynomials::lengths::COEFFICIENTS;
+use refusals::Refusal;
 use stores::lengths::{BLOCK, RELATION, ROW};
 
 pub mod lengths;
 
-// The value of an entry, or the number of the limit that it passes (SCOPE 14.33).
-#[derive(Drop)]
-enum Entry {
-    Fine(i64),
-    Passed(u8),
-}
-
-fn entry_value(p: &[i64], n: i64) -> Entry
+// The value of an entry, or the limit that it passes (SCOPE 14.33).
+fn entry_value(p: &[i64], n: i64) -> Result<i64, Refusal>
     requires { T (every small p.now) × (nat_abs n ≤ farthest) }
     ensures { judged_of result ≡ Constants.entry_at n p.now }
 {
-    let Formed::Value(value) = evaluation::horner(p, n) else {
-        return Entry::Passed(12);
+    let Some(value) = evaluation::horner(p, n) else {
+        return Err(Refusal::ValuePassed);
     };
     if !integers::within_bound(value) {
-        return Entry::Passed(8);
+        return Err(Refusal::CoefficientPassed);
     }
-    Entry::Fine(value)
+    Ok(value)
 }
 
 // The block in which an equation at n meets an index, counted from block l down.
@@ -51,7 +46,7 @@ fn block_at(n: i64, l: i64, index: usize) -> i64
 }
 
 // The entry of a block and an unknown.
-fn block_entry(row: &[i64], n: i64, block: usize, column: usize) -> Entry
+fn block_entry(row: &[i64], n: i64, block: usize, column: usize) -> Result<i64, Refusal>
     requires t { T (every small row.now) × (length row.now ≡ row_length) × (nat_abs n ≤ farthest) }
     requires block_lt_block_count { (block < block_count) × (column < column_count) }
     ensures { judged_of result
@@ -69,7 +64,7 @@ fn column_entry(
     sizes: stores::validity::Sizes,
     index: usize,
     unknown: usize,
-) -> Entry
+) -> Result<i64, Refusal>
     requires t { T (Stores.sizes_right_of (the_sizes_of sizes)) × T (Stores.row_right_of (the_sizes_of sizes) (Stores.row_of row.now)) }
     requires t_2 { T (every small row.now) × (length row.now ≡ row_length) × (nat_abs n ≤ bound) }
     requires index_lt_list_columns { (index < list_columns) × (unknown < column_count) }
@@ -78,11 +73,11 @@ fn column_entry(
 {
     let block = block_at(n, sizes.l, index);
     if block < 0 {
-        return Entry::Fine(0);
+        return Ok(0);
     }
     let place = block as usize;
     if stores::validity::span(sizes) < place {
-        return Entry::Fine(0);
+        return Ok(0);
     }
     block_entry(row, n, place, unknown)
 }
@@ -110,12 +105,12 @@ fn constant_row(
     n: i64,
     sizes: stores::validity::Sizes,
     last: usize,
-) -> u8
+) -> Result<(), Refusal>
     requires t { T (Stores.sizes_right_of (the_sizes_of sizes)) × T (Stores.row_right_of (the_sizes_of sizes) (Stores.row_of row.now)) }
     requires t_2 { T (every small row.now) × (length row.now ≡ row_length) × (nat_abs n ≤ bound) }
     requires last_le_largest_index { (last ≤ largest_index) × (length place.old ≡ list_columns) }
     ensures { Reports (λ v. take (Constants.the_columns_of sizes.m last) place.new ≡ v)
-        (Constants.constant_row_of sizes.m sizes.l last (Stores.row_of row.now) n) result }
+        (Constants.constant_row_of sizes.m sizes.l last (Stores.row_of row.now) n) (refusal_in result) }
 {
     let m = sizes.m;
     stores::rows::clear(place, 0, (last + 1) * m);
@@ -123,20 +118,15 @@ fn constant_row(
     let end = clamped(n + sizes.l + 1, last) * m;
     let mut index = first;
     let mut unknown = 0;
-    let mut j = first * m;
-    while j < end {
-        match column_entry(row, n, sizes, index, unknown) {
-            Entry::Fine(value) => place[j] = value,
-            Entry::Passed(limit) => return limit,
-        }
-        j += 1;
+    for j in first * m..end {
+        place[j] = column_entry(row, n, sizes, index, unknown)?;
         unknown += 1;
         if unknown == m {
             unknown = 0;
             index += 1;
         }
     }
-    0
+    Ok(())
 }
 
 // The equations at n, by number (SCOPE 14.31).
@@ -146,30 +136,30 @@ fn equation_rows(
     n: i64,
     sizes: stores::validity::Sizes,
     last: usize,
-) -> u8
+) -> Result<(), Refusal>
     requires t { T (Stores.sizes_right_of (the_sizes_of sizes)) × (Stores.row_need sizes.equations ≤ length rows.now)
         × T (every (Stores.row_right_of (the_sizes_of sizes)) (Stores.rows_of sizes.equations rows.now)) }
     requires n_bound { (nat_abs n ≤ bound) × (last ≤ largest_index) × (length part.old ≡ sizes.equations * list_columns) }
     ensures { Reports (λ v. matrix_rows (Constants.the_columns_of sizes.m last) sizes.equations part.new ≡ v)
-        (Constants.each (row_at (the_sizes_of sizes) last) (at_index n (Stores.rows_of sizes.equations rows.now))) result }
+        (Constants.each (row_at (the_sizes_of sizes) last) (at_index n (Stores.rows_of sizes.equations rows.now))) (refusal_in result) }
 {
     let equations = sizes.equations;
-    let mut i = 0;
-    while i < equations {
+    for i in 0..equations {
         let at = i * LIST_COLUMNS;
         let end = at + LIST_COLUMNS;
         let row = stores::rows::row_at(rows, i * ROW);
-        let limit = constant_row(&mut part[at..end], row, n, sizes, last);
-        if limit != 0 {
-            return limit;
-        }
-        i += 1;
+        constant_row(&mut part[at..end], row, n, sizes, last)?;
     }
-    0
+    Ok(())
 }
 
 // The equations by rising n, from -l to N - t (SCOPE 14.31).
-fn indexed_rows(part: &mut [i64], rows: &[i64], sizes: stores::validity::Sizes, last: usize) -> u8
+fn indexed_rows(
+    part: &mut [i64],
+    rows: &[i64],
+    sizes: stores::validity::Sizes,
+    last: usize,
+) -> Result<(), Refusal>
     requires t { T (Stores.sizes_right_of (the_sizes_of sizes)) × (Stores.row_need sizes.equations ≤ length rows.now)
         × T (every (Stores.row_right_of (the_sizes_of sizes)) (Stores.rows_of sizes.equations rows.now)) }
     requires last_le_largest_index { (last ≤ largest_index)
@@ -177,22 +167,17 @@ fn indexed_rows(part: &mut [i64], rows: &[i64], sizes: stores::validity::Sizes, 
     ensures { Reports (λ v. matrix_rows (Constants.the_columns_of sizes.m last)
         (suc (last + Stores.span (the_sizes_of sizes)) * sizes.equations) part.new ≡ v)
         (Constants.each (row_at (the_sizes_of sizes) last)
-        (flatten (map (λ n. at_index n (Stores.rows_of sizes.equations rows.now)) (Constants.row_indices (the_sizes_of sizes) last)))) result }
+        (flatten (map (λ n. at_index n (Stores.rows_of sizes.equations rows.now)) (Constants.row_indices (the_sizes_of sizes) last)))) (refusal_in result) }
 {
     let indices = last + stores::validity::span(sizes) + 1;
     let width = sizes.equations * LIST_COLUMNS;
     let l = sizes.l;
-    let mut k = 0;
-    while k < indices {
+    for k in 0..indices {
         let at = k * width;
         let end = at + width;
-        let limit = equation_rows(&mut part[at..end], rows, k as i64 - l, sizes, last);
-        if limit != 0 {
-            return limit;
-        }
-        k += 1;
+        equation_rows(&mut part[at..end], rows, k as i64 - l, sizes, last)?;
     }
-    0
+    Ok(())
 }
 
 // The relations in their order (SCOPE 14.31).
@@ -202,26 +187,21 @@ fn relation_rows(
     count: usize,
     sizes: stores::validity::Sizes,
     last: usize,
-) -> u8
+) -> Result<(), Refusal>
     requires t { T (Stores.sizes_right_of (the_sizes_of sizes)) × (count ≤ most_relations) × (Stores.relation_need ≤ length relations.now)
         × T (every (Stores.relation_right_of (the_sizes_of sizes)) (Stores.relations_of count relations.now)) }
     requires last_le_largest_index { (last ≤ largest_index) × (length part.old ≡ count * list_columns) }
     ensures { Reports (λ v. matrix_rows (Constants.the_columns_of sizes.m last) count part.new ≡ v)
-        (Constants.each (row_at (the_sizes_of sizes) last) (Stores.relations_of count relations.now)) result }
+        (Constants.each (row_at (the_sizes_of sizes) last) (Stores.relations_of count relations.now)) (refusal_in result) }
 {
-    let mut i = 0;
-    while i < count {
+    for i in 0..count {
         let at = i * LIST_COLUMNS;
         let end = at + LIST_COLUMNS;
         let from = i * RELATION;
         let row = stores::rows::row_at(relations, from + 1);
-        let limit = constant_row(&mut part[at..end], row, relations[from], sizes, last);
-        if limit != 0 {
-            return limit;
-        }
-        i += 1;
+        constant_row(&mut part[at..end], row, relations[from], sizes, last)?;
     }
-    0
+    Ok(())
 }
 
 // All rows are made, or the first limit that is passed is told (SCOPE 14.31, 14.34).
@@ -232,20 +212,17 @@ pub fn constant_rows(
     sizes: stores::validity::Sizes,
     count: usize,
     last: usize,
-) -> u8
+) -> Result<(), Refusal>
     requires { (Stores.check_stores_of (the_sizes_of sizes) count rows.now relations.now ≡ 0) × (last ≤ largest_index)
         × (matrix_need ≤ length matrix.old) }
     ensures reports { Reports (λ v. matrix_rows (Constants.the_columns_of sizes.m last) (length v) matrix.new ≡ v)
         (Constants.constant_rows_of (the_sizes_of sizes) last (Stores.rows_of sizes.equations rows.now)
-        (Stores.relations_of count relations.now)) result }
+        (Stores.relations_of count relations.now)) (refusal_in result) }
     ensures kept { Kept matrix_need matrix.old matrix.new }
 {
     let equations = (last + stores::validity::span(sizes) + 1) * sizes.equations;
     let middle = equations * LIST_COLUMNS;
-    let limit = indexed_rows(&mut matrix[0..middle], rows, sizes, last);
-    if limit != 0 {
-        return limit;
-    }
+    indexed_rows(&mut matrix[0..middle], rows, sizes, last)?;
     let end = middle + count * LIST_COLUMNS;
     relation_rows(&mut matrix[middle..end], relations, count, sizes, last)
 }

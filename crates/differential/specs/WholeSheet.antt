@@ -1,13 +1,14 @@
 -- A whole differential sheet that was read into rows, and the calls on it.
 --
 -- Main definitions
---   SheetTo          the rows hold the recurrence of the sheet, or it is refused
+--   RecurrenceIn     the rows hold the recurrence of the sheet
+--   SheetTo          they do, or it is refused
 --
 -- Main statements
 --   sheet-refuses    a sheet that is refused
 --   extent-fault, rows-fault, end-fault, end-got   where a sheet is refused, and where it is read to its end
-use Rattle.std.specs.Prelude.{ℕ, ◌≤◌, ◌<◌, ◌≡◌, List, [], length, drop, ℤ}
-use Rattle.std.proofs.Common.{sym, ◌∙◌, drop_of_length-le, drop-cons}
+use Rattle.std.specs.Prelude.{ℕ, ◌≤◌, ◌<◌, ◌≡◌, List, [], length, drop, ℤ, Result, IsErrAnd}
+use Rattle.std.proofs.Common.{Ok, Err, sym, ◌∙◌, drop_of_length-le, drop-cons}
 use Rattle.std.proofs.Math.Path.{ap}
 use Rattle.rules.specs.Stores.{rows_of, with_equations_of}
 use Rattle.rules.specs.Rows.{Row}
@@ -17,21 +18,28 @@ use Rattle.reading.specs.Sections.{read_each}
 use Rattle.differential.specs.Grammar.{Extent, sizes_for_of, read_extent}
 use Rattle.differential.specs.Recurrence.{plain_sheet}
 use Rattle.differential.specs.Calls.{read_recurrence}
-use Rattle.differential.specs.Read.{SmallExtent}
+use Rattle.differential.specs.Read.{extent_of, SmallExtent}
+use Rattle.differential.specs.declared.extent.Extent as Declared
+use Rattle.refusals.specs.declared.Refusal.{Refusal}
+use Rattle.refusals.specs.Refusals.{number_of}
 use Rattle.differential.specs.Rows.{read_row}
 use Rattle.differential.specs.Sections.{end_of, rows_end_of, recurrence-is}
 
--- What was read: beside a refusal of 0 the extent and the rows hold the recurrence, and nothing is left of the bytes.
-pub record SheetTo (bytes : List ℕ) (refusal : ℕ) (x : Extent) (rows : List ℤ) : Type 0 where
-  pub read : refusal ≡ 0 → read_recurrence bytes ≡ got (plain_sheet (sizes_for_of x) (rows_of x.equations rows)) []
-  pub small : refusal ≡ 0 → SmallExtent x × (1 ≤ x.unknowns)
-  pub refused : (refusal ≡ 0 → ⊥) → read_recurrence bytes ≡ fault refusal
+-- What was read: the extent and the rows hold the recurrence, and nothing is left of the bytes.
+pub record RecurrenceIn (bytes : List ℕ) (x : Extent) (rows : List ℤ) : Type 0 where
+  pub read : read_recurrence bytes ≡ got (plain_sheet (sizes_for_of x) (rows_of x.equations rows)) []
+  pub small : SmallExtent x × (1 ≤ x.unknowns)
 
-pub sheet-refuses : {bytes : List ℕ} {refusal : ℕ} {x : Extent} {rows : List ℤ} {n : ℕ} → (n ≡ 0 → ⊥) → read_recurrence bytes ≡ fault n
-    → refusal ≡ n
-    → SheetTo bytes refusal x rows
-sheet-refuses h e r =
-    record { read = λ z. absurd (h (sym r ∙ z)); small = λ z. absurd (h (sym r ∙ z)); refused = λ _. e ∙ ap fault (sym r) }
+-- Or the refusal is the fault of the sheet.
+abbrev pub SheetTo : List ℕ → Result Declared.Extent Refusal → List ℤ → Type 0
+SheetTo bytes (Ok x) rows = RecurrenceIn bytes (extent_of x) rows
+SheetTo bytes (Err r) rows = read_recurrence bytes ≡ fault (number_of r)
+
+-- A function that hands on a refusal.
+pub sheet-refuses : (bytes : List ℕ) (rows : List ℤ) (result : Result Declared.Extent Refusal) (r : Refusal) → IsErrAnd result (λ e. e ≡ r)
+    → read_recurrence bytes ≡ fault (number_of r) → SheetTo bytes result rows
+sheet-refuses bytes rows (Ok x) r same f = absurd same
+sheet-refuses bytes rows (Err e) r same f = f ∙ ap (λ e. fault (number_of e)) (sym same)
 
 pub extent-fault : (bytes : List ℕ) {n : ℕ} → read_extent bytes ≡ fault n → read_recurrence bytes ≡ fault n
 extent-fault bytes e = recurrence-is bytes ∙ then-fault rows_end_of e

@@ -11,9 +11,9 @@ ghost use Rattle.differential.specs.Grammar.{sizes_for_of};
 ghost use Rattle.differential.specs.Read.{extent_of, SmallExtent};
 ghost use Rattle.differential.specs.Calls.{read_differential_call, write_recurrence_call};
 
-pub use reading::sheet::SheetResult;
+pub use reading::sheet::Sheet;
+use refusals::Refusal;
 use stores::lengths::{COLUMNS, RELATIONS, ROWS};
-pub use writing::writer::WriteResult;
 
 mod equations;
 mod extent;
@@ -36,45 +36,38 @@ fn sizes_for(x: extent::Extent) -> stores::validity::Sizes
 
 // The recurrence of a differential sheet, read into lent stores (SCOPE 10.41). On a refusal they are unchanged (SCOPE 4.43); numbers past the needed
 // part stay (SCOPE 3.12).
-pub fn read_differential(bytes: &[u8], rows: &mut [i64], relations: &mut [i64]) -> SheetResult
+pub fn read_differential(
+    bytes: &[u8],
+    rows: &mut [i64],
+    relations: &mut [i64],
+) -> Result<Sheet, Refusal>
     ensures { ReadCalls.call_of result rows.new relations.new
         ≡ read_differential_call bytes.now rows.old relations.old }
 {
     let mut numbers = [0i64; ROWS];
-    let d = sheet::sheet_at(bytes, &mut numbers);
-    if d.refusal != 0 {
-        return reading::sheet::refused(d.refusal);
-    }
-    let x = d.extent;
+    let x = sheet::sheet_at(bytes, &mut numbers)?;
     if !stores::validity::lengths_right(rows, relations, x.equations) {
-        return reading::sheet::refused(1);
+        return Err(Refusal::ShortStore);
     }
     reading::sheet::fill_rows(rows, &numbers, x.equations);
     reading::sheet::fill_relations(relations, &numbers, 0);
     let sizes = sizes_for(x);
-    SheetResult {
-        refusal: 0,
+    Ok(Sheet {
         sizes,
         relations: 0,
         order: [0; COLUMNS],
-    }
+    })
 }
 
-// The recurrence of a differential sheet, written as a sheet (SCOPE 10.42). Nothing is written on a refusal (SCOPE 4.54), and bytes past the length
-// stay (SCOPE 4.51). The recurrence passes the checks of the writer, so they are not made.
-pub fn write_recurrence(sheet: &[u8], bytes: &mut [u8]) -> WriteResult
+// The recurrence of a differential sheet, written as a sheet (SCOPE 10.42): its length. Nothing is written on a refusal (SCOPE 4.54), and bytes
+// past the length stay (SCOPE 4.51). The recurrence passes the checks of the writer, so they are not made.
+pub fn write_recurrence(sheet: &[u8], bytes: &mut [u8]) -> Result<usize, Refusal>
     ensures { WriterChecks.call_of result bytes.new ≡ write_recurrence_call sheet.now bytes.old }
 {
     let mut numbers = [0i64; ROWS];
-    let d = sheet::sheet_at(sheet, &mut numbers);
-    if d.refusal != 0 {
-        return WriteResult {
-            refusal: d.refusal,
-            length: 0,
-        };
-    }
+    let x = sheet::sheet_at(sheet, &mut numbers)?;
     let relations = [0i64; RELATIONS];
     let order: [usize; COLUMNS] = [0; COLUMNS];
-    let sizes = sizes_for(d.extent);
+    let sizes = sizes_for(x);
     writing::writer::write_checked(&numbers, &relations, sizes, 0, order, bytes)
 }

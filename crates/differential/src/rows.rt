@@ -14,7 +14,7 @@ use polynomials::lengths::COEFFICIENTS;
 use stores::lengths::BLOCK;
 
 // The coefficients of a product of at most two factors n + b, from power 0 on.
-#[derive(Drop)]
+#[derive(Clone, Copy, Debug, PartialEq, Eq)]
 struct Product {
     constant: i64,
     linear: i64,

@@ -2,21 +2,22 @@
 ghost use Rattle.std.specs.Prelude.{◌≡◌, ◌≤◌, leb, nat_abs, length, drop};
 ghost use Rattle.rules.specs.Numbers.{field};
 ghost use Rattle.rules.specs.Sheets.{always};
-ghost use Rattle.tokens.specs.Fields.{Answers};
+ghost use Rattle.refusals.specs.Refusals.{refusal_in};
+ghost use Rattle.tokens.specs.Fields.{FoundIn, Reads};
 ghost use Rattle.differential.specs.Differential.{factor_bound};
 ghost use Rattle.differential.specs.Grammar.{judge_ordered_of, judge_factor_of, first_power_of, first_column_of, read_term};
 ghost use Rattle.differential.specs.Read.{extent_of, term_of, FewNumbers, SmallExtent, SmallBefore, read_place};
 
 use crate::extent::Extent;
+use refusals::Refusal;
+use tokens::Found;
 
 // No factor passes this in size (SCOPE 10.5).
 const FACTOR: i64 = 1048576;
 
-// A term that was read and the place after it, or a refusal.
-#[derive(Drop)]
-#[derive(Clone, Copy)]
+// A term that was read, and the place after it.
+#[derive(Clone, Copy, Debug, PartialEq, Eq)]
 pub(crate) struct TermRead {
-    pub refusal: u8,
     pub at: usize,
     pub derivative: usize,
     pub power: usize,
@@ -24,32 +25,25 @@ pub(crate) struct TermRead {
     pub factor: i64,
 }
 
-fn no_term(refusal: u8) -> TermRead
-    ensures { (result.refusal ≡ refusal) × (result.at ≡ 0) }
-{
-    TermRead {
-        refusal,
-        at: 0,
-        derivative: 0,
-        power: 0,
-        column: 0,
-        factor: 0,
-    }
-}
-
 // A number that is not from `low` to `high` is 2 (SCOPE 10.12); then one that is not from `first` to `last` breaks the order of terms:
 // 3 (SCOPE 10.13).
-fn judge_ordered(low: usize, high: usize, first: usize, last: usize, value: i64) -> u8
+fn judge_ordered(
+    low: usize,
+    high: usize,
+    first: usize,
+    last: usize,
+    value: i64,
+) -> Result<(), Refusal>
     requires { FewNumbers low high first last }
-    ensures { result ≡ judge_ordered_of low high first last value }
+    ensures { refusal_in result ≡ judge_ordered_of low high first last value }
 {
-    if tokens::is_between(low as i64, high as i64, value) {
-        if tokens::is_between(first as i64, last as i64, value) {
-            return 0;
-        }
-        return 3;
+    if !tokens::is_between(low as i64, high as i64, value) {
+        return Err(Refusal::OutOfRange);
     }
-    2
+    if !tokens::is_between(first as i64, last as i64, value) {
+        return Err(Refusal::Malformed);
+    }
+    Ok(())
 }
 
 fn ordered_at(
@@ -59,14 +53,16 @@ fn ordered_at(
     high: usize,
     first: usize,
     last: usize,
-) -> tokens::NumberRead
+) -> Result<Found, Refusal>
     requires { (at ≤ length bytes.now) × FewNumbers low high first last }
-    ensures { Answers bytes.now result.refusal result.value result.at
-        (field (judge_ordered_of low high first last) (always 32) (drop at bytes.now)) }
+    ensures { FoundIn bytes.now result (field (judge_ordered_of low high first last) (always 32) (drop at bytes.now)) }
 {
-    let n = tokens::number_at(bytes, at);
-    let judgement = judge_ordered(low, high, first, last, n.value);
-    tokens::separated(bytes, n, judgement, 32)
+    tokens::field_at(
+        bytes,
+        at,
+        32,
+        |value| judge_ordered(low, high, first, last, value),
+    )
 }
 
 fn factor_small(value: i64) -> bool
@@ -76,26 +72,23 @@ fn factor_small(value: i64) -> bool
 }
 
 // A factor past its bound is 5 (SCOPE 10.12), and one that is 0 is 3 (SCOPE 10.13).
-fn judge_factor(value: i64) -> u8
-    ensures { result ≡ judge_factor_of value }
+fn judge_factor(value: i64) -> Result<(), Refusal>
+    ensures { refusal_in result ≡ judge_factor_of value }
 {
-    if factor_small(value) {
-        if value == 0 {
-            return 3;
-        }
-        return 0;
+    if !factor_small(value) {
+        return Err(Refusal::PastBound);
     }
-    5
+    if value == 0 {
+        return Err(Refusal::Malformed);
+    }
+    Ok(())
 }
 
-fn factor_at(bytes: &[u8], at: usize, separator: u8) -> tokens::NumberRead
+fn factor_at(bytes: &[u8], at: usize, separator: u8) -> Result<Found, Refusal>
     requires { at ≤ length bytes.now }
-    ensures { Answers bytes.now result.refusal result.value result.at
-        (field judge_factor_of (always separator) (drop at bytes.now)) }
+    ensures { FoundIn bytes.now result (field judge_factor_of (always separator) (drop at bytes.now)) }
 {
-    let n = tokens::number_at(bytes, at);
-    let judgement = judge_factor(n.value);
-    tokens::separated(bytes, n, judgement, separator)
+    tokens::field_at(bytes, at, separator, judge_factor)
 }
 
 // The lowest power that may follow the term before, at derivative k (SCOPE 10.6).
@@ -123,58 +116,42 @@ fn first_column(before: TermRead, k: usize, j: usize) -> usize
     before.column + 1
 }
 
-// The derivative, the power and the column of a term, or a refusal; they stand in a term whose factor is 0.
-fn place_at(bytes: &[u8], x: Extent, before: TermRead) -> TermRead
+// The derivative, the power and the column of a term; they stand in a term whose factor is 0.
+fn place_at(bytes: &[u8], x: Extent, before: TermRead) -> Result<TermRead, Refusal>
     requires { (before.at ≤ length bytes.now) × SmallExtent (extent_of x) × SmallBefore (term_of before) }
-    ensures { Answers bytes.now result.refusal (term_of result) result.at
-        (read_place (extent_of x) (term_of before) (drop before.at bytes.now)) }
+    ensures { Reads bytes.now (λ t. term_of t) (λ t. t.at) result (read_place (extent_of x) (term_of before) (drop before.at bytes.now)) }
 {
-    let k = ordered_at(bytes, before.at, 0, x.order, 0, before.derivative);
-    if k.refusal != 0 {
-        return no_term(k.refusal);
-    }
+    let k = ordered_at(bytes, before.at, 0, x.order, 0, before.derivative)?;
     let derivative = k.value as usize;
     let lowest = first_power(before, derivative);
-    let j = ordered_at(bytes, k.at, 0, x.degree, lowest, x.degree);
-    if j.refusal != 0 {
-        return no_term(j.refusal);
-    }
+    let j = ordered_at(bytes, k.at, 0, x.degree, lowest, x.degree)?;
     let power = j.value as usize;
     let leftmost = first_column(before, derivative, power);
-    let c = ordered_at(bytes, j.at, 1, x.unknowns, leftmost, x.unknowns);
-    if c.refusal != 0 {
-        return no_term(c.refusal);
-    }
-    TermRead {
-        refusal: 0,
+    let c = ordered_at(bytes, j.at, 1, x.unknowns, leftmost, x.unknowns)?;
+    Ok(TermRead {
         at: c.at,
         derivative,
         power,
         column: c.value as usize,
         factor: 0,
-    }
+    })
 }
 
 // The term behind the term before, whose place in the bytes it carries on from.
-pub(crate) fn term_at(bytes: &[u8], x: Extent, before: TermRead, separator: u8) -> TermRead
+pub(crate) fn term_at(
+    bytes: &[u8],
+    x: Extent,
+    before: TermRead,
+    separator: u8,
+) -> Result<TermRead, Refusal>
     requires { (before.at ≤ length bytes.now) × SmallExtent (extent_of x) × SmallBefore (term_of before) }
-    ensures { Answers bytes.now result.refusal (term_of result) result.at
-        (read_term (extent_of x) (term_of before) separator (drop before.at bytes.now)) }
+    ensures { Reads bytes.now (λ t. term_of t) (λ t. t.at) result (read_term (extent_of x) (term_of before) separator (drop before.at bytes.now)) }
 {
-    let q = place_at(bytes, x, before);
-    if q.refusal != 0 {
-        return no_term(q.refusal);
-    }
-    let a = factor_at(bytes, q.at, separator);
-    if a.refusal != 0 {
-        return no_term(a.refusal);
-    }
-    TermRead {
-        refusal: 0,
+    let q = place_at(bytes, x, before)?;
+    let a = factor_at(bytes, q.at, separator)?;
+    Ok(TermRead {
         at: a.at,
-        derivative: q.derivative,
-        power: q.power,
-        column: q.column,
         factor: a.value,
-    }
+        ..q
+    })
 }

@@ -238,7 +238,7 @@ module _ {n count : ℕ} {store₀ : List ℤ} (ready : Ready n count store₀) 
       unfolding eliminate
       from-here = t.same ∙ ap (eliminate settled_rows) next
 
-      pub turn-passed : reduce_all_of settled_rows row ≡ passed 8 → eliminate [] (matrix_rows n count store₀) ≡ passed 8
+      pub turn-passed : {limit : ℕ} → reduce_all_of settled_rows row ≡ passed limit → eliminate [] (matrix_rows n count store₀) ≡ passed limit
       unfolding and_on
       turn-passed e = from-here ∙ ap (λ o. and_on o (λ q. eliminate (settle_at settled_rows q (first_at q)) rest)) e
 

@@ -8,11 +8,13 @@
 --   product-size, sum-size, combined-below   how large a combination's numbers become
 --   combined-place       number j of a combination
 --   whole-divided, whole-kept   what the division makes of a row, by its content
---   first_found, first-missing   the first nonzero entry
+--   first_found, first-missing, column-searched   the first nonzero entry
 --   reduce-zero, reduce-nonzero   what a settled row does, by the entry at its column
 --   reduce-next, reduce-passed   what the settled rows do, by what the first of them does
 use Rattle.std.specs.Prelude.{ℕ, zero, suc, ◌*◌, ◌^◌, ◌≤◌, ◌<◌, ◌≡◌, refl, ◌≢◌, Bool, true, false, cond, List, [], ◌∷◌, T, ltb, length, get_or, ℤ, pos, neg_ℤ, nat_abs, ◌+ℤ◌, ◌*ℤ◌}
-use Rattle.std.proofs.Common.{sym, ◌∙◌, subst, mul-le-mul, le_trans, pos_of_ne-zero, zero-lt-suc, le_of_suc-le-suc, arith, lt-ltb, le-ltb}
+use Rattle.std.specs.Prelude as Answer
+use Rattle.std.specs.Option.{MatchOption, unwrap_or}
+use Rattle.std.proofs.Common.{None, Some, sym, ◌∙◌, subst, mul-le-mul, le_trans, pos_of_ne-zero, zero-lt-suc, le_of_suc-le-suc, arith, lt-ltb, le-ltb}
 use Rattle.std.proofs.Math.Path.{ap}
 use Rattle.std.proofs.Math.Option.{Option, none, some, map}
 use Rattle.std.proofs.Math.Nat.{le_of_dvd, pos_of_dvd_of_pos}
@@ -145,6 +147,16 @@ pub first-missing : (r : List ℤ) (c : ℕ) → length r ≤ c → ((k : ℕ) �
     → first_at r ≡ column_found (length r) c
 first-missing r c h z = first-nowhere r (λ k l. z k (omega arith)) ∙ sym (column-none (length r) c h)
 
+-- What a search from the front finds.
+abbrev pub FirstOf : List ℤ → Answer.Option ℕ → Type 0
+FirstOf r o =
+    MatchOption o ((k : ℕ) → k < length r → get_or r k (pos 0) ≡ pos 0)
+    (λ c. (c < length r) × (get_or r c (pos 0) ≢ pos 0) × ((k : ℕ) → k < c → get_or r k (pos 0) ≡ pos 0))
+
+pub column-searched : (r : List ℤ) (o : Answer.Option ℕ) → FirstOf r o → first_at r ≡ column_found (length r) (unwrap_or o (length r))
+column-searched r None each = first-missing r (length r) (omega arith) each
+column-searched r (Some c) at = first_found r c at.0 at.2 at.1
+
 -- ---- one settled row
 
 module _ (p r : List ℤ) (c : ℕ) where
@@ -167,6 +179,6 @@ module _ (p : Pivot) (rest : List Pivot) (r q : List ℤ) where
   unfolding reduce_all_of
   reduce-next e = ap (λ o. and_on o (reduce_all_of rest)) e
 
-  pub reduce-passed : reduce_by_of p r ≡ judged false q → reduce_all_of (p ∷ rest) r ≡ passed 8
+  pub reduce-passed : {limit : ℕ} → reduce_by_of p r ≡ passed limit → reduce_all_of (p ∷ rest) r ≡ passed limit
   unfolding reduce_all_of
   reduce-passed e = ap (λ o. and_on o (reduce_all_of rest)) e

@@ -8,13 +8,14 @@ ghost use Rattle.rules.specs.Limits.{bound, small};
 ghost use Rattle.polynomials.specs.Content.{Below};
 ghost use Rattle.sides.specs.Lent.{Kept};
 ghost use Rattle.echelon.specs.Eliminated as Elimination;
-ghost use Rattle.constant_rows.specs.Matrices.{matrix_rows, Reports};
+ghost use Rattle.constant_rows.specs.Matrices.{matrix_rows, Told, judged_with};
 ghost use Rattle.echelon.specs.MatrixTurns.{pivots_in, row_at, count_after, columns_after, store_after};
 ghost use Rattle.echelon.specs.RowWork.{column_found};
 ghost use Rattle.constant_rows.specs.ListLengths.{list_columns, most_rows, matrix_need};
-ghost use Rattle.echelon.specs.SoundRows.{judged, Sound};
+ghost use Rattle.echelon.specs.SoundRows.{Sound};
 
 use constant_rows::lengths::LIST_COLUMNS;
+use refusals::Refusal;
 
 // Rule 2's g and h.
 #[derive(Drop)]
@@ -58,10 +59,8 @@ fn combine(row: &mut [i64], pivot: &[i64], g: i64, h: i64)
     requires g_bound { (nat_abs g ≤ bound) × (nat_abs h ≤ bound) }
     ensures { row.new ≡ Elimination.combined (record { g = g; h = h }) row.old pivot.now }
 {
-    let mut j = 0;
-    while j < row.len() {
-        row[j] = combination(g, row[j], h, pivot[j]);
-        j += 1;
+    for (j, b) in pivot.iter().enumerate() {
+        row[j] = combination(g, row[j], h, *b);
     }
 }
 
@@ -76,64 +75,62 @@ fn divide_by_content(row: &mut [i64])
     }
 }
 
-// Where the row has a nonzero entry at the settled row's column, the combination takes its place. Is it within ±C (SCOPE 14.42, 14.43)?
-fn reduce_by(row: &mut [i64], pivot: &[i64], column: usize) -> bool
+// Where the row has a nonzero entry at the settled row's column, the combination takes its place, if it is within ±C (SCOPE 14.42, 14.43).
+fn reduce_by(row: &mut [i64], pivot: &[i64], column: usize) -> Result<(), Refusal>
     requires row_len { (length row.old ≡ length pivot.now) × T (every small row.old) × T (every small pivot.now) }
     requires column_in_bounds { (column < length row.old) × (get_or pivot.now column (pos 0) ≢ pos 0) }
     ensures { Elimination.reduce_by_of (record { numbers = pivot.now; column = column }) row.old
-        ≡ judged result row.new }
+        ≡ judged_with result row.new }
 {
     let b = row[column];
     if b == 0 {
-        return true;
+        return Ok(());
     }
     let x = factors_of(pivot[column], b);
     combine(row, pivot, x.g, x.h);
     divide_by_content(row);
-    stores::checks::all_small(row)
+    if !stores::checks::all_small(row) {
+        return Err(Refusal::CoefficientPassed);
+    }
+    Ok(())
 }
 
-// With each settled row, in their order. Is each combination within ±C?
-fn reduce_all(row: &mut [i64], matrix: &[i64], columns: &[usize]) -> bool
+// With each settled row, in their order, as long as each combination is within ±C.
+fn reduce_all(row: &mut [i64], matrix: &[i64], columns: &[usize]) -> Result<(), Refusal>
     requires row_len_bound { (length row.old ≤ list_columns) × (length columns.now * list_columns ≤ length matrix.now) }
     requires t { T (every small row.old) × Sound (length row.old) (pivots_in (length row.old) columns.now matrix.now) }
     ensures { Elimination.reduce_all_of (pivots_in (length row.old) columns.now matrix.now)
-        row.old ≡ judged result row.new }
+        row.old ≡ judged_with result row.new }
 {
     let n = row.len();
-    let mut k = 0;
-    while k < columns.len() {
+    for (k, column) in columns.iter().enumerate() {
         let from = k * LIST_COLUMNS;
         let to = from + n;
-        if !reduce_by(row, &matrix[from..to], columns[k]) {
-            return false;
-        }
-        k += 1;
+        reduce_by(row, &matrix[from..to], *column)?;
     }
-    true
+    Ok(())
 }
 
 // The first column with a nonzero entry, or the number of columns where there is none (SCOPE 14.44).
 fn first_column(row: &[i64]) -> usize
     ensures { Elimination.first_at row.now ≡ column_found (length row.now) result }
 {
-    let mut j = 0;
-    while j < row.len() {
-        if row[j] != 0 {
-            return j;
-        }
-        j += 1;
-    }
-    j
+    row.iter().position(|a| *a != 0).unwrap_or(row.len())
 }
 
-// Row i of the store behind the settled rows, in lent numbers. Is each combination within ±C?
-fn reduced_row(matrix: &[i64], n: usize, i: usize, columns: &[usize], numbers: &mut [i64]) -> bool
+// Row i of the store behind the settled rows, in lent numbers, as long as each combination is within ±C.
+fn reduced_row(
+    matrix: &[i64],
+    n: usize,
+    i: usize,
+    columns: &[usize],
+    numbers: &mut [i64],
+) -> Result<(), Refusal>
     requires n_le_list_columns { (n ≤ list_columns) × (i * list_columns + list_columns ≤ length matrix.now) × T (every small (row_at n i matrix.now)) }
     requires list_columns_in_bounds { (length columns.now * list_columns ≤ length matrix.now) × Sound n (pivots_in n columns.now matrix.now)
         × (length numbers.old ≡ list_columns) }
     ensures matrix_value { Elimination.reduce_all_of (pivots_in n columns.now matrix.now) (row_at n i matrix.now)
-        ≡ judged result (take n numbers.new) }
+        ≡ judged_with result (take n numbers.new) }
     ensures numbers_len { length numbers.new ≡ list_columns }
 {
     let from = i * LIST_COLUMNS;
@@ -142,11 +139,9 @@ fn reduced_row(matrix: &[i64], n: usize, i: usize, columns: &[usize], numbers: &
     reduce_all(&mut numbers[..n], matrix, columns)
 }
 
-// What an elimination leaves: 8 where a number passed ±C, otherwise the number of the settled rows, which are the first of the store, and
-// their columns.
+// What an elimination leaves: the number of the settled rows, which are the first of the store, and their columns.
 #[derive(Drop)]
 pub struct Eliminated {
-    pub refusal: u8,
     pub settled: usize,
     pub columns: [usize; LIST_COLUMNS],
 }
@@ -171,33 +166,21 @@ fn settle(matrix: &mut [i64], row: &[i64], settled: usize, columns: &mut [usize]
 }
 
 // The rows in their order, each behind the settled ones (SCOPE 14.41). A row is settled in a place that is not behind its own, so no row
-// is overwritten before its turn.
-pub fn eliminate(matrix: &mut [i64], n: usize, count: usize) -> Eliminated
+// is overwritten before its turn. It is refused where a number passes ±C.
+pub fn eliminate(matrix: &mut [i64], n: usize, count: usize) -> Result<Eliminated, Refusal>
     requires { (n ≤ list_columns) × (count ≤ most_rows) × (matrix_need ≤ length matrix.old)
         × T (every (every small) (matrix_rows n count matrix.old)) }
-    ensures reports { Reports (λ ps. (result.settled ≡ length ps) × (result.settled ≤ n) × (length result.columns ≡ list_columns)
-        × (pivots_in n (take result.settled result.columns) matrix.new ≡ ps))
-        (Elimination.eliminate [] (matrix_rows n count matrix.old)) result.refusal }
+    ensures reports { Told (λ e ps. (e.settled ≡ length ps) × (e.settled ≤ n) × (length e.columns ≡ list_columns)
+        × (pivots_in n (take e.settled e.columns) matrix.new ≡ ps))
+        (Elimination.eliminate [] (matrix_rows n count matrix.old)) result }
     ensures kept { Kept matrix_need matrix.old matrix.new }
 {
     let mut settled = 0;
     let mut columns = [0usize; LIST_COLUMNS];
     let mut numbers = [0i64; LIST_COLUMNS];
-    let mut i = 0;
-    while i < count {
-        if !reduced_row(matrix, n, i, &columns[..settled], &mut numbers) {
-            return Eliminated {
-                refusal: 8,
-                settled: 0,
-                columns,
-            };
-        }
+    for i in 0..count {
+        reduced_row(matrix, n, i, &columns[..settled], &mut numbers)?;
         settled = settle(matrix, &numbers[..n], settled, &mut columns);
-        i += 1;
     }
-    Eliminated {
-        refusal: 0,
-        settled,
-        columns,
-    }
+    Ok(Eliminated { settled, columns })
 }

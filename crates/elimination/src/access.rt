@@ -12,7 +12,7 @@ use stores::lengths::{ENTRIES, ROW};
 fn between(block: i64, l: i64, t: i64) -> bool
     ensures { result ≡ (le_z t block && le_z block l) }
 {
-    t <= block && block <= l
+    (t..=l).contains(&block)
 }
 
 // Does the system have this row, block and column? (SCOPE 3.42)

@@ -9,19 +9,20 @@ ghost use Rattle.stores.specs.Validity.{the_sizes_of};
 ghost use Rattle.runs.specs.CallLaws.{call_of};
 
 use polynomials::lengths::COEFFICIENTS;
+use refusals::Refusal;
 use sides::Side;
 use stores::lengths::ROW;
 
 mod access;
 
-pub use runs::RunResult;
+pub use runs::RunReport;
 
 pub fn run_leading(
     rows: &mut [i64],
     relations: &mut [i64],
     sizes: stores::validity::Sizes,
     count: usize,
-) -> runs::RunResult
+) -> Result<RunReport, Refusal>
     ensures { call_of result rows.new relations.new
         ≡ call_run leading (the_sizes_of sizes) count rows.old relations.old }
 {
@@ -33,7 +34,7 @@ pub fn run_trailing(
     relations: &mut [i64],
     sizes: stores::validity::Sizes,
     count: usize,
-) -> runs::RunResult
+) -> Result<RunReport, Refusal>
     ensures { call_of result rows.new relations.new
         ≡ call_run trailing (the_sizes_of sizes) count rows.old relations.old }
 {

@@ -5,7 +5,8 @@
 --   after                what follows a value, and nothing where there is none
 --   used p               how many coefficients there are up to the highest that is not 0
 --   horner n p           the value of p at n by Horner's rule, none where a value on the way is past the limit
---   formed_of             the value that a `Formed` has, none where a value is past the limit
+--   formed_of             the value that a call gives, none where a value is past the limit
+--   Front p r            r is a front of p, as a walk from the top leaves it
 --   farthest             no n at which a program evaluates is farther from 0
 --
 -- Main statements
@@ -13,24 +14,25 @@
 --   after-some                  what comes after a value that is there
 --   used-length, used-zero      no more than there are, and only zeros behind them
 --   reach-none, reach-same, reach-next, reach-used   how far the coefficients that are not 0 reach, one looked at after the other
+--   front-whole, front-less     a walk from the top: its beginning, and a step
 --   horner-last                 the highest coefficient is the first value
 --   horner-zero, horner-front   zeros leave the value at 0, and those at the top leave it as it is
 --   horner-next, horner-past    a coefficient more, at the low end; what is past the limit stays so
 --   horner-size                 a value that is formed is within the limit
 --   horner-eval                 where Horner's rule gives a value, it is that of the polynomial
-use Rattle.std.specs.Prelude.{ℕ, zero, suc, ◌+◌, ◌-◌, ◌≤◌, ◌<◌, ◌≡◌, refl, Bool, true, false, cond, ◌≢◌, [], ◌∷◌, T, leb, length, take, drop, get_or, ℤ, pos, nat_abs, ◌+ℤ◌, ◌*ℤ◌}
-use Rattle.std.proofs.Common.{zero-le, arith, sym, ◌∙◌, ap, leb→le, le→leb, lit≤}
+use Rattle.std.specs.Prelude.{ℕ, zero, suc, ◌+◌, ◌-◌, ◌≤◌, ◌<◌, ◌≡◌, refl, Bool, true, false, cond, ◌≢◌, [], ◌∷◌, ◌++◌, T, leb, length, take, drop, get_or, ℤ, pos, nat_abs, ◌+ℤ◌, ◌*ℤ◌}
+use Rattle.std.specs.Prelude as Answer
+use Rattle.std.proofs.Common.{Some, None, zero-le, arith, sym, ◌∙◌, ap, leb→le, le→leb, lit≤}
 use Rattle.std.proofs.Math.Decide.{dec_lt}
 use Rattle.std.proofs.Math.Option.{Option, none, some}
-use Rattle.std.proofs.Math.Seq.{drop-length}
+use Rattle.std.proofs.Math.Seq.{drop-length, take_at}
+use Rattle.std.proofs.lemmas.List.{length-append, length-take, take_all, take-take, get_or_push, get_or-take}
 use Rattle.std.proofs.Math.IntN.{*ℤ-zero, +ℤ_idr}
 use Rattle.algebra.specs.Coefficients.{coeff-drop, coeff-past-degree, coeff-past-length, degree-unique}
 use Rattle.algebra.specs.Polynomials.{Polynomial, coeff, eval, is_zero_of, degree, is_zero-cons, is_zero-coeff, coeff-is_zero}
 use Rattle.lists.specs.Taken.{drop-next}
 use Rattle.lists.specs.Tests.{true_of, false_of}
 use Rattle.polynomials.specs.Content.{degree-below}
-use Rattle.evaluation.specs.declared.Formed.{Formed}
-use Rattle.evaluation.specs.declared.Formed.TheVariants.{Value, Past}
 
 -- No value of Horner's rule may pass ±2^40 (SCOPE 12.31, 14.33).
 abbrev pub value_limit : ℕ
@@ -55,9 +57,9 @@ unfolding after within
 horner n [] = some (pos 0)
 horner n (a ∷ p) = after (λ v. within (a +ℤ n *ℤ v)) (horner n p)
 
-unfoldable pub formed_of : Formed → Option ℤ
-formed_of (Value v) = some v
-formed_of Past = none
+abbrev pub formed_of : Answer.Option ℤ → Option ℤ
+formed_of (Some v) = some v
+formed_of None = none
 
 -- 2^21: the indices of a record are within ±2^20, and blocks reach 64 further; solutions stay nearer to 0.
 abbrev pub farthest : ℕ
@@ -175,6 +177,27 @@ reach-used p i r h w = cases r w
         let last : coeff p r ≢ pos 0 = λ e. w.last (omega arith) (ap (coeff p) z ∙ e) in
         ap suc (sym (degree-unique p r last (λ k l. past (suc r) w k (omega arith))))
         ∙ sym (ap (λ t. cond t 0 (suc (degree p))) (false_of (is_zero_of p) (λ t. last (is_zero-coeff p t r))))
+
+-- What is left of p when it is walked from the top: its front.
+abbrev pub Front : Polynomial → Polynomial → Type 0
+Front p r = r ≡ take (length r) p
+
+-- A front of p that ends with a, and the front before it.
+pub front-less : (p r s : Polynomial) (a : ℤ) → Front p r → r ≡ s ++ (a ∷ [])
+    → Front p s × (length r ≡ length s + 1) × (length s < length p) × (a ≡ get_or p (length s) (pos 0))
+front-less p r s a f e =
+    let long : length r ≡ length s + 1 = ap length e ∙ length-append s (a ∷ []) in
+    let few : length r ≤ length p = omega (arith, ap length f, length-take (length r) p) in
+    let whole : s ++ (a ∷ []) ≡ take (length s + 1) p = sym e ∙ f ∙ ap (λ k. take k p) long in (
+      sym (take_at s (a ∷ []) (length s) refl) ∙ ap (take (length s)) whole ∙ take-take (length s) (length s + 1) p (omega arith),
+      long,
+      omega arith,
+      sym (get_or_push s a (pos 0) (length s) refl) ∙ ap (λ q. get_or q (length s) (pos 0)) whole
+          ∙ get_or-take (length s + 1) p (length s) (pos 0) (omega arith),
+    )
+
+pub front-whole : (p : Polynomial) → Front p p
+front-whole p = sym (take_all (length p) p (omega arith))
 
 -- The highest coefficient is the first value.
 pub horner-last : (n : ℤ) (p : Polynomial) (i : ℕ) → i + 1 ≡ length p → nat_abs (get_or p i (pos 0)) ≤ value_limit

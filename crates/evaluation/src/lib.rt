@@ -10,52 +10,41 @@ ghost use Rattle.evaluation.specs.Evaluated as Evaluated;
 // 2^40, which no value of Horner's rule passes (SCOPE 12.31, 14.33).
 const LIMIT: u64 = 1_099_511_627_776;
 
-// A value or a sum, or that a value passed the limit.
-#[derive(Drop)]
-pub enum Formed {
-    Value(i64),
-    Past,
-}
-
 // How many coefficients there are up to the highest that is not 0: those above leave the value at 0. All are looked at, with no stop: where
 // the highest stands cannot be foreseen.
 pub fn used(p: &[i64]) -> usize
     ensures { result ≡ Evaluated.used p.now }
 {
     let mut reached = 0;
-    let mut i = 0;
-    while i < p.len() {
-        if p[i] != 0 {
+    for (i, a) in p.iter().enumerate() {
+        if *a != 0 {
             reached = i + 1;
         }
-        i += 1;
     }
     reached
 }
 
 // Horner's rule, from the highest power down, over all coefficients that are there (SCOPE 12.31). It begins with the highest coefficient,
-// which is within ±C and so within the limit.
-pub fn evaluate(p: &[i64], n: i64) -> Formed
+// which is within ±C and so within the limit. There is none where a value on the way passes the limit.
+pub fn evaluate(p: &[i64], n: i64) -> Option<i64>
     requires { T (every small p.now) × (nat_abs n ≤ Evaluated.farthest) }
     ensures { Evaluated.formed_of result ≡ Evaluated.horner n p.now }
 {
-    if p.len() == 0 {
-        return Formed::Value(0);
-    }
-    let mut i = p.len() - 1;
-    let mut value = p[i];
-    while 0 < i {
-        i -= 1;
-        value = p[i] + n * value;
+    let Some((top, lower)) = p.split_last() else {
+        return Some(0);
+    };
+    let mut value = *top;
+    for a in lower.iter().rev() {
+        value = *a + n * value;
         if LIMIT < integers::magnitude(value) {
-            return Formed::Past;
+            return None;
         }
     }
-    Formed::Value(value)
+    Some(value)
 }
 
 // The same, where it is not known how many coefficients matter.
-pub fn horner(p: &[i64], n: i64) -> Formed
+pub fn horner(p: &[i64], n: i64) -> Option<i64>
     requires { T (every small p.now) × (nat_abs n ≤ Evaluated.farthest) }
     ensures { Evaluated.formed_of result ≡ Evaluated.horner n p.now }
 {

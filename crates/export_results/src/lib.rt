@@ -5,6 +5,19 @@ ghost use Rattle.std.specs.Prelude.{◌≡◌, map, ◌≤◌, nat_abs, length, 
 ghost use Rattle.std.specs.Int.Signed.{non_neg};
 ghost use Rattle.lists.specs.Overwritten.{overwrite};
 ghost use Rattle.lists.specs.Tests.{every};
+ghost use Rattle.refusals.specs.Refusals.{refusal_in};
+
+use refusals::Refusal;
+
+// The number of a refusal, or 0 (SCOPE 6).
+pub fn number_in<T>(checked: &Result<T, Refusal>) -> u8
+    ensures { result ≡ refusal_in checked.now }
+{
+    match checked {
+        Ok(_) => 0,
+        Err(refusal) => refusal.number(),
+    }
+}
 
 // The numbers of a result at the start of its store.
 pub fn put(res: &mut [i64], numbers: &[i64])
@@ -18,14 +31,7 @@ pub fn put(res: &mut [i64], numbers: &[i64])
 pub fn no_negative(numbers: &[i64]) -> bool
     ensures { result ≡ every non_neg numbers.now }
 {
-    let mut i = 0;
-    while i < numbers.len() {
-        if numbers[i] < 0 {
-            return false;
-        }
-        i += 1;
-    }
-    true
+    numbers.iter().all(|number| *number >= 0)
 }
 
 // The four columns of an order, by their sizes.

@@ -7,8 +7,12 @@ ghost use Rattle.runs.specs.CallLaws.{result_of};
 ghost use Rattle.log_steps.specs.Logs.{most_steps};
 ghost use Rattle.logs.specs.LogCalls.{check_replay};
 ghost use Rattle.exported_runs.specs.Runs.{run_numbers_of, SmallResult};
+ghost use Rattle.refusals.specs.Refusals.{refusal_in};
 ghost use Rattle.export_results.specs.Results.{kept_or};
 ghost use Rattle.exported_logs.specs.LogNumbers.{export_replay, export_logged};
+
+use elimination::RunReport;
+use refusals::Refusal;
 
 // The steps of the longest log (SCOPE 13.1).
 const MOST_STEPS: usize = 1000;
@@ -31,7 +35,8 @@ fn too_short(
     if MOST_STEPS < steps {
         return 2;
     }
-    stores::validity::check_stores(&rows[..0], &relations[..0], sizes, count)
+    let checked = stores::validity::check_stores(&rows[..0], &relations[..0], sizes, count);
+    export_results::number_in(&checked)
 }
 
 pub fn exported_replay(
@@ -52,15 +57,15 @@ pub fn exported_replay(
     }
     let answer = logs::replay(rows, relations, sizes, count, steps, log);
     exported_runs::put_run(res, answer);
-    answer.refusal
+    export_results::number_in(&answer)
 }
 
 // The result store after a run with its log: unchanged where the refusal was found before the work began (SCOPE 3.54).
-fn put_logged(res: &mut [i64], run: elimination::RunResult, steps: usize)
+fn put_logged(res: &mut [i64], run: Result<RunReport, Refusal>, steps: usize)
     requires { (11 ≤ length res.old) × SmallResult (result_of run) × (steps ≤ most_steps) }
-    ensures { res.new ≡ kept_or run.refusal (run_numbers_of (result_of run) ++ (pos steps ∷ [])) res.old }
+    ensures { res.new ≡ kept_or (refusal_in run) (run_numbers_of (result_of run) ++ (pos steps ∷ [])) res.old }
 {
-    if stores::validity::counted(run.refusal as usize, 5) {
+    if stores::validity::counted(export_results::number_in(&run) as usize, 5) {
         return;
     }
     let numbers = exported_runs::run_numbers(run);
@@ -89,7 +94,6 @@ pub fn exported_run(
         return too_short(rows, relations, sizes, count, MOST_STEPS);
     }
     let answer = logs::run_logged(rows, relations, sizes, count, log);
-    let run = answer.run;
-    put_logged(res, run, answer.steps);
-    run.refusal
+    put_logged(res, answer.run, answer.steps);
+    export_results::number_in(&answer.run)
 }

@@ -1,39 +1,47 @@
 // The answer to recorded vectors as numbers of a lent store.
 #![tactic(auto)]
 
-ghost use Rattle.std.specs.Prelude.{◌≡◌, ◌≤◌, length};
+ghost use Rattle.std.specs.Prelude.{◌≡◌, ◌≤◌, Ok, length};
 ghost use Rattle.stores.specs.Validity.{the_sizes_of};
 ghost use Rattle.records.specs.RecordAnswers.{answer_of};
 ghost use Rattle.export_results.specs.Results.{kept_or};
 ghost use Rattle.exported_records.specs.RecordNumbers.{record_numbers_of, record_refusal_of, SmallAnswer, export_record};
 
-use records::Answer;
+use records::Finding;
+use refusals::Refusal;
 
-fn record_numbers(answer: Answer) -> [i64; 4]
+fn record_numbers(answer: Result<Finding, Refusal>) -> [i64; 4]
     requires { SmallAnswer (answer_of answer) }
     ensures { result ≡ record_numbers_of (answer_of answer) }
 {
     match answer {
-        Answer::Fits(tested) => [0, tested as i64, 0, 0],
-        Answer::Equation(i, n, sum) => [1, i as i64, n, sum],
-        Answer::Relation(i, n, sum) => [2, i as i64, n, sum],
-        Answer::Refused(_) => [0; 4],
+        Ok(finding) => finding_numbers(finding),
+        Err(_) => [0; 4],
     }
 }
 
-fn record_refusal(answer: Answer) -> u8
+fn finding_numbers(finding: Finding) -> [i64; 4]
+    requires { SmallAnswer (answer_of (Ok finding)) }
+    ensures { result ≡ record_numbers_of (answer_of (Ok finding)) }
+{
+    match finding {
+        Finding::Fits(tested) => [0, tested as i64, 0, 0],
+        Finding::Equation(i, n, sum) => [1, i as i64, n, sum],
+        Finding::Relation(i, n, sum) => [2, i as i64, n, sum],
+    }
+}
+
+fn record_refusal(answer: Result<Finding, Refusal>) -> u8
     ensures { result ≡ record_refusal_of (answer_of answer) }
 {
     match answer {
-        Answer::Fits(_) => 0,
-        Answer::Equation(_, _, _) => 0,
-        Answer::Relation(_, _, _) => 0,
-        Answer::Refused(refusal) => refusal,
+        Ok(_) => 0,
+        Err(refusal) => refusal.number(),
     }
 }
 
 // The result store after an answer: unchanged where the refusal was found before the work began (SCOPE 3.54).
-fn put_record(res: &mut [i64], answer: Answer, refusal: u8)
+fn put_record(res: &mut [i64], answer: Result<Finding, Refusal>, refusal: u8)
     requires { (4 ≤ length res.old) × SmallAnswer (answer_of answer) }
     ensures { res.new ≡ kept_or refusal (record_numbers_of (answer_of answer)) res.old }
 {

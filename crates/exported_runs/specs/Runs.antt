@@ -10,6 +10,7 @@
 -- Main statements
 --   refused-numbers        on a refusal the needed part of the result store is zero where it is written
 --   run_short, run-done    the call with a result store that is too short, and with one that is long enough
+--   refusal-same           the refusal of a result is that of the answer
 --   settled-small          the result of a final state is small
 --   run-zeros, run_small   the result of a refusal is small, and that of every run
 use Rattle.std.specs.Prelude.{ℕ, zero, suc, ◌≤◌, ◌<◌, ◌≡◌, Bool, ◌&&◌, List, [], ◌∷◌, ◌++◌, map, leb, ℤ, pos, length}
@@ -34,6 +35,12 @@ use Rattle.rules.specs.Calls.{reported_order}
 use Rattle.rules.specs.Calls.{Result, Call, call_run, zeros, refusal, unchanged, cleared, acceptance, after_run_of, after_check}
 use Rattle.lists.specs.Overwritten.{overwrite}
 use Rattle.export_results.specs.Results.{Exported, kept, run_need, most_count, early, kept_or, kept-early, kept-late, none-checked}
+use Rattle.std.specs.Prelude as Std
+use Rattle.std.proofs.Common.{Ok, Err}
+use Rattle.refusals.specs.declared.Refusal.{Refusal}
+use Rattle.refusals.specs.Refusals.{refusal_in}
+use Rattle.runs.specs.declared.RunReport.{RunReport}
+use Rattle.runs.specs.CallLaws.{result_of}
 use Rattle.exported_runs.specs.Times.{times-few}
 
 -- The number of relations, the shifts, c(1) to c(4), 1 or 0 for a root, the root, the rank, how often the root occurs (SCOPE 3.52).
@@ -83,6 +90,12 @@ pub record SmallResult (r : Result) : Type 0 where
   pub columns : All (λ c. c ≤ column_count) r.order
   pub low-rank : r.rank ≤ column_count
   pub few-times : r.multiplicity ≤ 64
+
+-- The refusal of a result is that of the answer.
+pub refusal-same : (r : Std.Result RunReport Refusal) → (result_of r).refusal ≡ refusal_in r
+unfolding result_of refusal
+refusal-same (Ok r) = refl
+refusal-same (Err r) = refl
 
 -- ---- the result store, by the refusal of the run
 

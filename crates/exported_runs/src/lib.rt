@@ -2,6 +2,7 @@
 #![tactic(auto)]
 
 ghost use Rattle.std.specs.Prelude.{◌≡◌, ◌≤◌, length};
+ghost use Rattle.refusals.specs.Refusals.{refusal_in};
 ghost use Rattle.rules.specs.Calls.{call_run};
 ghost use Rattle.stores.specs.Validity.{the_sizes_of};
 ghost use Rattle.sides.specs.Lent.{side_of};
@@ -9,36 +10,43 @@ ghost use Rattle.runs.specs.CallLaws.{result_of, call_of};
 ghost use Rattle.exported_runs.specs.Runs.{run_numbers_of, SmallResult, export_run};
 ghost use Rattle.export_results.specs.Results.{kept_or};
 
+use elimination::RunReport;
+use multiplicities::Root;
+use refusals::Refusal;
 use sides::Side;
 
-pub fn run_numbers(answer: elimination::RunResult) -> [i64; 10]
-    requires { SmallResult (result_of answer) }
-    ensures { result ≡ run_numbers_of (result_of answer) }
+pub fn run_numbers(run: Result<RunReport, Refusal>) -> [i64; 10]
+    requires { SmallResult (result_of run) }
+    ensures { result ≡ run_numbers_of (result_of run) }
 {
-    let order = answer.order;
+    let Ok(report) = run else {
+        return [0; 10];
+    };
+    let root = report.root.unwrap_or(Root { value: 0, times: 0 });
+    let order = report.order;
     [
-        answer.relations as i64,
-        answer.shifts as i64,
+        report.relations as i64,
+        report.shifts as i64,
         order[0] as i64,
         order[1] as i64,
         order[2] as i64,
         order[3] as i64,
-        answer.has_root as i64,
-        answer.root,
-        answer.rank as i64,
-        answer.multiplicity as i64,
+        report.root.is_some() as i64,
+        root.value,
+        report.rank as i64,
+        root.times as i64,
     ]
 }
 
 // The result store after a run: unchanged where the refusal was found before the work began (SCOPE 3.54).
-pub fn put_run(res: &mut [i64], answer: elimination::RunResult)
-    requires { (10 ≤ length res.old) × SmallResult (result_of answer) }
-    ensures { res.new ≡ kept_or answer.refusal (run_numbers_of (result_of answer)) res.old }
+pub fn put_run(res: &mut [i64], run: Result<RunReport, Refusal>)
+    requires { (10 ≤ length res.old) × SmallResult (result_of run) }
+    ensures { res.new ≡ kept_or (refusal_in run) (run_numbers_of (result_of run)) res.old }
 {
-    if stores::validity::counted(answer.refusal as usize, 5) {
+    if stores::validity::counted(export_results::number_in(&run) as usize, 5) {
         return;
     }
-    let numbers = run_numbers(answer);
+    let numbers = run_numbers(run);
     export_results::put(res, &numbers[..]);
 }
 
@@ -48,7 +56,7 @@ fn run(
     sizes: stores::validity::Sizes,
     count: usize,
     side: Side,
-) -> elimination::RunResult
+) -> Result<RunReport, Refusal>
     ensures { call_of result rows.new relations.new
         ≡ call_run (side_of side) (the_sizes_of sizes) count rows.old relations.old }
 {
@@ -72,9 +80,10 @@ pub fn exported(
         ≡ export_run (side_of side) (the_sizes_of sizes) count rows.old relations.old res.old }
 {
     if res.len() < 10 {
-        return stores::validity::check_stores(&rows[..0], &relations[..0], sizes, count);
+        let checked = stores::validity::check_stores(&rows[..0], &relations[..0], sizes, count);
+        return export_results::number_in(&checked);
     }
     let answer = run(rows, relations, sizes, count, side);
     put_run(res, answer);
-    answer.refusal
+    export_results::number_in(&answer)
 }

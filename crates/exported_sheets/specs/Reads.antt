@@ -25,6 +25,12 @@ use Rattle.lists.specs.Padded.{length-pad_to, all-pad_to}
 use Rattle.rules.specs.Numbers.{Read, got, fault}
 use Rattle.rules.specs.Sheets.{Sheet, read_sheet_of}
 use Rattle.rules.specs.SheetCalls.{ReadResult, ReadCall, different_columns_of, read_refusal, unread, filled, after_read, read_call}
+use Rattle.std.specs.Prelude.{Result}
+use Rattle.std.proofs.Common.{Ok, Err}
+use Rattle.refusals.specs.declared.Refusal.{Refusal}
+use Rattle.refusals.specs.Refusals.{refusal_in}
+use Rattle.reading.specs.declared.sheet.Sheet.{Sheet as SheetGiven}
+use Rattle.reading.specs.WholeSheet.{result_of}
 use Rattle.sheets.specs.WrittenOrder.{OrderRight, different-cons}
 use Rattle.sheets.specs.ReadBack.{SheetRight, read_right}
 use Rattle.export_results.specs.Results.{Exported, kept, read_need, on_acceptance}
@@ -33,6 +39,12 @@ use Rattle.export_results.specs.Results.{Exported, kept, read_need, on_acceptanc
 unfoldable pub read_numbers_of : ReadResult → List ℤ
 read_numbers_of r =
     pos r.sizes.m ∷ r.sizes.l ∷ r.sizes.t ∷ pos r.relations ∷ (map pos r.order ++ (pos r.sizes.equations ∷ []))
+
+-- The refusal of a result is that of the answer.
+pub read-same : (r : Result SheetGiven Refusal) → (result_of r).refusal ≡ refusal_in r
+unfolding result_of read_refusal
+read-same (Ok r) = refl
+read-same (Err r) = refl
 
 -- The result store is written on acceptance only: reading refuses 1 to 5 alone (SCOPE 3.54).
 unfoldable pub read_after : ReadCall → List ℤ → Exported

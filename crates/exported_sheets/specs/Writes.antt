@@ -25,8 +25,17 @@ use Rattle.rules.specs.Stores.{Sizes, sizes_right_of, count_right, lengths_right
 use Rattle.lists.specs.Overwritten.{overwrite}
 use Rattle.rules.specs.Sheets.{write_sheet_of}
 use Rattle.rules.specs.SheetCalls.{WriteCall, order_right_of, check_write_of, sheet_of, unwritten, written, after_write_check, write_call}
-use Rattle.writing.specs.WriterChecks.{check_write-order}
+use Rattle.std.specs.Prelude.{Result}
+use Rattle.std.proofs.Common.{Ok, Err}
+use Rattle.refusals.specs.declared.Refusal.{Refusal}
+use Rattle.refusals.specs.Refusals.{refusal_in}
+use Rattle.writing.specs.WriterChecks.{call_of, check_write-order}
 use Rattle.export_results.specs.Results.{on_acceptance, none-checked}
+
+-- The refusal of a result is that of the answer.
+pub write-same : (r : Result ℕ Refusal) (bytes : List ℕ) → (call_of r bytes).refusal ≡ refusal_in r
+write-same (Ok n) bytes = refl
+write-same (Err r) bytes = refl
 
 -- ---- the order
 

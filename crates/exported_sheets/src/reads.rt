@@ -1,12 +1,14 @@
 // The calls that read a sheet or a differential sheet: what it says besides its rows and relations, as numbers of a lent store.
-ghost use Rattle.std.specs.Prelude.{◌≡◌};
+ghost use Rattle.std.specs.Prelude.{◌≡◌, Ok};
 ghost use Rattle.reading.specs.WholeSheet.{result_of};
 ghost use Rattle.exported_sheets.specs.Reads.{read_numbers_of, SmallRead, export_read};
 ghost use Rattle.exported_sheets.specs.Differentials.{export_differential};
 
-fn read_numbers(sheet: sheets::SheetResult) -> [i64; 9]
-    requires { SmallRead (result_of sheet) }
-    ensures { result ≡ read_numbers_of (result_of sheet) }
+use sheets::Sheet;
+
+fn read_numbers(sheet: Sheet) -> [i64; 9]
+    requires { SmallRead (result_of (Ok sheet)) }
+    ensures { result ≡ read_numbers_of (result_of (Ok sheet)) }
 {
     let sizes = sheet.sizes;
     let order = sheet.order;
@@ -30,15 +32,16 @@ pub fn read_sheet(bytes: &[u8], rows: &mut [i64], relations: &mut [i64], res: &m
 {
     if res.len() < 9 {
         let judged = sheets::read_sheet(bytes, &mut rows[..0], &mut relations[..0]);
-        return judged.refusal;
+        return export_results::number_in(&judged);
     }
-    let sheet = sheets::read_sheet(bytes, rows, relations);
-    if sheet.refusal != 0 {
-        return sheet.refusal;
+    match sheets::read_sheet(bytes, rows, relations) {
+        Ok(sheet) => {
+            let numbers = read_numbers(sheet);
+            export_results::put(res, &numbers[..]);
+            0
+        }
+        Err(refusal) => refusal.number(),
     }
-    let numbers = read_numbers(sheet);
-    export_results::put(res, &numbers[..]);
-    0
 }
 
 // The recurrence of a differential sheet, in the same way.
@@ -53,13 +56,14 @@ pub fn read_differential(
 {
     if res.len() < 9 {
         let judged = differential::read_differential(bytes, &mut rows[..0], &mut relations[..0]);
-        return judged.refusal;
+        return export_results::number_in(&judged);
     }
-    let sheet = differential::read_differential(bytes, rows, relations);
-    if sheet.refusal != 0 {
-        return sheet.refusal;
+    match differential::read_differential(bytes, rows, relations) {
+        Ok(sheet) => {
+            let numbers = read_numbers(sheet);
+            export_results::put(res, &numbers[..]);
+            0
+        }
+        Err(refusal) => refusal.number(),
     }
-    let numbers = read_numbers(sheet);
-    export_results::put(res, &numbers[..]);
-    0
 }

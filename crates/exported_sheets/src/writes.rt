@@ -19,7 +19,8 @@ pub fn write_sheet(
         res.old }
 {
     if order.len() < 4 {
-        return stores::validity::check_stores(&rows[..0], &relations[..0], sizes, count);
+        let checked = stores::validity::check_stores(&rows[..0], &relations[..0], sizes, count);
+        return export_results::number_in(&checked);
     }
     if !export_results::no_negative(&order[..4]) {
         return 2;
@@ -34,14 +35,15 @@ pub fn write_sheet(
             columns,
             &mut bytes[..0],
         );
-        return none.refusal;
+        return export_results::number_in(&none);
     }
-    let written = sheets::write_sheet(rows, relations, sizes, count, columns, bytes);
-    if written.refusal != 0 {
-        return written.refusal;
+    match sheets::write_sheet(rows, relations, sizes, count, columns, bytes) {
+        Ok(length) => {
+            res[0] = length as i64;
+            0
+        }
+        Err(refusal) => refusal.number(),
     }
-    res[0] = written.length as i64;
-    0
 }
 
 // The recurrence of a differential sheet written as a sheet. A result store without a number is too short, so as bytes that hold nothing.
@@ -51,12 +53,13 @@ pub fn write_recurrence(sheet: &[u8], bytes: &mut [u8], res: &mut [i64]) -> u8
 {
     if res.len() < 1 {
         let judged = differential::write_recurrence(sheet, &mut bytes[..0]);
-        return judged.refusal;
+        return export_results::number_in(&judged);
     }
-    let written = differential::write_recurrence(sheet, bytes);
-    if written.refusal != 0 {
-        return written.refusal;
+    match differential::write_recurrence(sheet, bytes) {
+        Ok(length) => {
+            res[0] = length as i64;
+            0
+        }
+        Err(refusal) => refusal.number(),
     }
-    res[0] = written.length as i64;
-    0
 }

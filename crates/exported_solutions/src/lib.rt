@@ -49,7 +49,8 @@ pub fn exported(
         res.old }
 {
     if res.len() < 3 {
-        return stores::validity::check_stores(&rows[..0], &relations[..0], sizes, count);
+        let checked = stores::validity::check_stores(&rows[..0], &relations[..0], sizes, count);
+        return export_results::number_in(&checked);
     }
     let answer = solutions::solutions(
         rows,

@@ -9,6 +9,7 @@
 --
 -- Main statements
 --   refused-steps              after a refusal by a step the result is the steps before it, and zeros
+--   run-same                   the refusal of a run is that of the answer
 --   left-early, left-late      the two stores by the refusal
 --   worked, unworked           a run by what its checks say
 --   call-late, call-early      a state that passes gives no early refusal, any other one does
@@ -39,6 +40,13 @@ use Rattle.steps.specs.SoundStates.{settled-most}
 use Rattle.steps.proofs.HandedIn.{handed-sound}
 use Rattle.steps.specs.SmallSteps.{SmallState}
 use Rattle.steps.proofs.SmallSteps.{steps-small}
+use Rattle.std.specs.Prelude as Std
+use Rattle.std.proofs.Common.{Ok, Err, Some, None}
+use Rattle.refusals.specs.declared.Refusal as Refusals
+use Rattle.refusals.specs.Refusals.{refusal_in}
+use Rattle.runs.specs.declared.RunReport.{RunReport}
+use Rattle.runs.specs.CallLaws as RunLaws
+use Rattle.steps.specs.StepCalls.{run_in}
 use Rattle.exported_runs.specs.Times.{times-few}
 use Rattle.exported_runs.specs.Runs.{run_numbers_of, SmallResult}
 use Rattle.exported_steps.specs.StateNumbers.{state_need, held_in, counts_right_of}
@@ -102,6 +110,13 @@ unfoldable pub export_steps : ℕ → List ℤ → List ℤ → List ℤ → Lis
 unfolding after_steps_check check_steps
 export_steps budget row_store relation_store state_store result_store =
     after_steps_check budget row_store relation_store state_store result_store (check_steps row_store relation_store state_store result_store)
+
+-- The refusal of a run is that of the answer.
+pub run-same : (r : Std.Result (Std.Option RunReport) Refusals.Refusal) → (run_in r).refusal ≡ refusal_in r
+unfolding run_in RunLaws.result_of refusal
+run-same (Ok None) = refl
+run-same (Ok (Some report)) = refl
+run-same (Err r) = refl
 
 -- ---- the two stores, by the refusal
 

@@ -7,11 +7,15 @@ ghost use Rattle.stores.specs.Validity.{the_sizes_of};
 ghost use Rattle.steps.specs.Handed.{held_of};
 ghost use Rattle.steps.specs.HeldCalls.{state_numbers_of};
 ghost use Rattle.steps.specs.SmallSteps.{SmallState};
-ghost use Rattle.steps.specs.StepCalls.{result_of};
+ghost use Rattle.refusals.specs.Refusals.{refusal_in};
+ghost use Rattle.exported_runs.specs.Runs.{run_numbers_of, SmallResult};
+ghost use Rattle.steps.specs.StepCalls.{result_of, run_in, finished_in};
 ghost use Rattle.exported_steps.specs.StateNumbers.{counts_right_of, held_in, export_prepare};
 ghost use Rattle.exported_steps.specs.StepNumbers.{step_numbers, early, state_left, result_left};
 ghost use Rattle.exported_steps.specs.StepNumbers.{SmallNumbers, SmallUnlessEarly, export_steps};
 
+use elimination::RunReport;
+use refusals::Refusal;
 use steps::{State, StepsResult};
 
 // No count among the eleven numbers of a state is negative; l and t may be (SCOPE 11.43).
@@ -75,17 +79,31 @@ pub fn exported_prepare(
         ≡ export_prepare (the_sizes_of sizes) count rows.now relations.now state.old }
 {
     if state.len() < 11 {
-        return stores::validity::check_stores(&rows[..0], &relations[..0], sizes, count);
+        let checked = stores::validity::check_stores(&rows[..0], &relations[..0], sizes, count);
+        return export_results::number_in(&checked);
     }
-    let prepared = steps::prepare(rows, relations, sizes, count);
-    let refusal = prepared.refusal;
-    if refusal != 0 {
-        return refusal;
+    match steps::prepare(rows, relations, sizes, count) {
+        Ok(first) => {
+            let numbers = state_numbers(first);
+            export_results::put(state, &numbers[..]);
+            0
+        }
+        Err(refusal) => refusal.number(),
     }
-    let first = prepared.state;
-    let numbers = state_numbers(first);
-    export_results::put(state, &numbers[..]);
-    0
+}
+
+// The numbers of a run: zeros where it is not finished (SCOPE 11.44).
+fn run_numbers(run: Result<Option<RunReport>, Refusal>) -> [i64; 10]
+    requires { SmallResult (run_in run) }
+    ensures { result ≡ run_numbers_of (run_in run) }
+{
+    match run {
+        Ok(finished) => match finished {
+            Some(report) => exported_runs::run_numbers(Ok(report)),
+            None => [0; 10],
+        },
+        Err(refusal) => exported_runs::run_numbers(Err(refusal)),
+    }
 }
 
 // The steps, 1 or 0 for a finished run, and behind them the ten numbers of a run (SCOPE 11.44).
@@ -93,11 +111,20 @@ fn put_steps(res: &mut [i64], answer: StepsResult)
     requires { (12 ≤ length res.old) × SmallNumbers (result_of answer) }
     ensures { res.new ≡ overwrite (step_numbers (result_of answer)) res.old }
 {
-    let run = answer.run;
-    let numbers = exported_runs::run_numbers(run);
+    let numbers = run_numbers(answer.run);
     res[0] = answer.steps as i64;
-    res[1] = answer.finished as i64;
+    res[1] = is_finished(answer.run) as i64;
     stores::rows::save(res, 2, &numbers[..]);
+}
+
+// Is no row left?
+fn is_finished(run: Result<Option<RunReport>, Refusal>) -> bool
+    ensures { result ≡ finished_in run }
+{
+    match run {
+        Ok(report) => report.is_some(),
+        Err(_) => false,
+    }
 }
 
 // The refusals of the checks; those of a step are 7 to 10 (SCOPE 11.34, 11.35).
@@ -110,12 +137,11 @@ fn found_before(refusal: u8) -> bool
 // The stores of state and result after a call: unchanged where the refusal was found before the work began (SCOPE 11.35).
 fn put_answer(state: &mut [i64], res: &mut [i64], answer: StepsResult) -> u8
     requires { (11 ≤ length state.old) × (12 ≤ length res.old) × SmallUnlessEarly (result_of answer) }
-    ensures { (result ≡ answer.run.refusal)
+    ensures { (result ≡ refusal_in answer.run)
         × (state.new ≡ state_left (result_of answer) state.old)
         × (res.new ≡ result_left (result_of answer) res.old) }
 {
-    let run = answer.run;
-    let refusal = run.refusal;
+    let refusal = export_results::number_in(&answer.run);
     if found_before(refusal) {
         return refusal;
     }
@@ -153,8 +179,7 @@ pub fn exported_steps(
     let held = state_in(state);
     if res.len() < 12 {
         let judged = steps::run_steps(&mut rows[..0], &mut relations[..0], held, 0);
-        let none = judged.run;
-        return none.refusal;
+        return export_results::number_in(&judged.run);
     }
     let answer = steps::run_steps(rows, relations, held, budget);
     put_answer(state, res, answer)

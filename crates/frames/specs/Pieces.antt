@@ -32,6 +32,9 @@ use Rattle.rules.specs.Batch.{one_more_of, count_answer, broken, closing_by, clo
 use Rattle.rules.specs.Batch.{read_size, read_after_client, read_sheet_line}
 use Rattle.answers.specs.Faults.{Numbered, read, numbered as numbered-fault, field-numbered, between-judging}
 use Rattle.lists.specs.Tests.{first-failed, both-passed}
+use Rattle.refusals.specs.declared.Refusal.{Refusal}
+use Rattle.refusals.specs.Refusals.{number_of as refusal_number}
+use Rattle.std.proofs.Common.{Result, Ok, Err}
 use Rattle.frames.specs.declared.Batch.{Batch}
 use Rattle.frames.specs.declared.Begun.{Begun}
 use Rattle.frames.specs.declared.SheetLine.{SheetLine}
@@ -60,6 +63,11 @@ unfoldable pub begun_of : List ℕ → Begun
 unfolding begun_by read_count
 begun_of bytes = begun_by bytes (read_count bytes)
 
+-- The same of a line, or of why there is none.
+abbrev pub begun_in : Result Begun Refusal → Begun
+begun_in (Ok b) = b
+begun_in (Err r) = record { refusal = refusal_number r; taken = 0; batch = batch_with 0 no_tally }
+
 unfoldable pub line_by : List ℕ → Read ReadLine → SheetLine
 line_by bytes (got v rest) = record { refusal = 0; taken = length bytes - length rest; client = v.client; bytes = v.bytes }
 line_by bytes (fault n) = record { refusal = n; taken = 0; client = 0; bytes = 0 }
@@ -67,6 +75,10 @@ line_by bytes (fault n) = record { refusal = n; taken = 0; client = 0; bytes = 0
 unfoldable pub line_of : List ℕ → SheetLine
 unfolding line_by read_sheet_line
 line_of bytes = line_by bytes (read_sheet_line bytes)
+
+abbrev pub line_in : Result SheetLine Refusal → SheetLine
+line_in (Ok l) = l
+line_in (Err r) = record { refusal = refusal_number r; taken = 0; client = 0; bytes = 0 }
 
 -- ---- counting
 

@@ -7,8 +7,10 @@ ghost use Rattle.lists.specs.Totals.{total};
 ghost use Rattle.rules.specs.Numbers.{line, lines};
 ghost use Rattle.rules.specs.Batch.{no_tally, tally_lines};
 ghost use Rattle.number_texts.specs.Runs.{Put};
-ghost use Rattle.frames.specs.Pieces.{batch_with, begun_of, line_of, raised_of, counted_of, text_of, refusal_line_of, close_text};
+ghost use Rattle.frames.specs.Pieces.{batch_with, begun_of, begun_in, line_of, line_in, raised_of, counted_of, text_of, refusal_line_of, close_text};
 ghost use Rattle.frames.specs.Lines.{pair_bytes, tally_bytes};
+
+use refusals::Refusal;
 
 // Clients have the numbers 1 to 8 (SCOPE 5.2).
 pub const CLIENTS: usize = 8;
@@ -77,23 +79,30 @@ fn window(bytes: &[u8]) -> &[u8]
     }
 }
 
-// The line with the number of sheets, 0 to 1,000 (SCOPE 5.1). The bytes are the rest of the input, or a part from its
-// start of at least 24.
+// The line with the number of sheets, 0 to 1,000 (SCOPE 5.1).
+fn first_line(bytes: &[u8]) -> Result<Begun, Refusal>
+    ensures { begun_in result ≡ begun_of bytes.now }
+{
+    let n = tokens::number_between(window(bytes), 0, 0, 1000, 10)?;
+    let sheets = n.value as usize;
+    Ok(Begun {
+        refusal: 0,
+        taken: n.at,
+        batch: uncounted(sheets),
+    })
+}
+
+// The same, with the refusal by its number. The bytes are the rest of the input, or a part from its start of at least 24.
 pub fn begin(bytes: &[u8]) -> Begun
     ensures { result ≡ begun_of bytes.now }
 {
-    let n = tokens::number_between(window(bytes), 0, 0, 1000, 10);
-    if n.refusal != 0 {
-        return Begun {
-            refusal: n.refusal,
+    match first_line(bytes) {
+        Ok(begun) => begun,
+        Err(refusal) => Begun {
+            refusal: refusal.number(),
             taken: 0,
             batch: uncounted(0),
-        };
-    }
-    Begun {
-        refusal: 0,
-        taken: n.at,
-        batch: uncounted(n.value as usize),
+        },
     }
 }
 
@@ -108,24 +117,28 @@ fn no_line(refusal: u8) -> SheetLine
     }
 }
 
-// The line of a sheet: its client, 1 to 8, and its bytes, 0 to 32,768 (SCOPE 5.2). The bytes given are as for `begin`.
-pub fn line(bytes: &[u8]) -> SheetLine
-    ensures { result ≡ line_of bytes.now }
+// The line of a sheet: its client, 1 to 8, and its bytes, 0 to 32,768 (SCOPE 5.2).
+fn sheet_line(bytes: &[u8]) -> Result<SheetLine, Refusal>
+    ensures { line_in result ≡ line_of bytes.now }
 {
     let w = window(bytes);
-    let client = tokens::number_between(w, 0, 1, 8, 32);
-    if client.refusal != 0 {
-        return no_line(client.refusal);
-    }
-    let size = tokens::number_between(w, client.at, 0, 32768, 10);
-    if size.refusal != 0 {
-        return no_line(size.refusal);
-    }
-    SheetLine {
+    let client = tokens::number_between(w, 0, 1, 8, 32)?;
+    let size = tokens::number_between(w, client.at, 0, 32768, 10)?;
+    Ok(SheetLine {
         refusal: 0,
         taken: size.at,
         client: client.value as usize,
         bytes: size.value as usize,
+    })
+}
+
+// The same, with the refusal by its number. The bytes given are as for `begin`.
+pub fn line(bytes: &[u8]) -> SheetLine
+    ensures { result ≡ line_of bytes.now }
+{
+    match sheet_line(bytes) {
+        Ok(line) => line,
+        Err(refusal) => no_line(refusal.number()),
     }
 }
 
@@ -179,14 +192,11 @@ pub fn in_all(counts: [usize; CLIENTS]) -> usize
     ensures { result ≡ min (total counts) 1001 }
 {
     let mut sum = 0;
-    let mut i = 0;
-    while i < CLIENTS {
-        let count = counts[i];
+    for count in counts {
         if SHEETS - sum < count {
             return SHEETS + 1;
         }
         sum += count;
-        i += 1;
     }
     sum
 }
@@ -218,10 +228,8 @@ fn put_tally(bytes: &mut [u8], accepted: [usize; CLIENTS], refused: [usize; CLIE
         bytes.new result }
 {
     let mut at = 0;
-    let mut i = 0;
-    while i < CLIENTS {
+    for i in 0..CLIENTS {
         at = put_pair(bytes, at, accepted[i], refused[i]);
-        i += 1;
     }
     at
 }

@@ -38,35 +38,21 @@ fn get(rt: &(impl Input + Eprint), input: &mut [u8]) -> Option<usize>
     }
 }
 
-// How many bytes have been read, and whether a read has failed.
-#[derive(Drop)]
-struct Filled {
-    count: usize,
-    failed: bool,
-}
-
-// Input up to its end, or as much as the store holds.
-fn fill(rt: &(impl Input + Eprint), sheet: &mut [u8]) -> Filled
-    ensures in_bounds { result.count ≤ length sheet.new }
-    ensures counted { result.count ≡ length (take result.count sheet.new) }
+// Input up to its end, or as much as the store holds: the number of bytes, or none where a read fails.
+fn fill(rt: &(impl Input + Eprint), sheet: &mut [u8]) -> Option<usize>
+    ensures in_bounds { IfSome result (λ count. count ≤ length sheet.new) }
+    ensures counted { IfSome result (λ count. count ≡ length (take count sheet.new)) }
 {
     let mut count = 0;
+    // No count: a read takes as many bytes as there are.
     while count < sheet.len() {
-        let Some(taken) = get(rt, &mut sheet[count..]) else {
-            return Filled {
-                count,
-                failed: true,
-            };
-        };
+        let taken = get(rt, &mut sheet[count..])?;
         if taken == 0 {
             break;
         }
         count += taken;
     }
-    Filled {
-        count,
-        failed: false,
-    }
+    Some(count)
 }
 
 // Output, written at once. Where that fails, standard error says so.
@@ -80,24 +66,32 @@ fn put(rt: &(impl Print + Eprint), text: &[u8]) -> bool {
     }
 }
 
-// The refusal's line, and the sheet of the recurrence behind it.
-fn answer(rt: &(impl Print + Eprint), sheet: &[u8]) {
-    let mut output = room();
-    let written = differential::write_recurrence(sheet, &mut output);
-    let line = frames::refusal_line(written.refusal);
+// The line of a refusal's number, or of 0.
+fn put_line(rt: &(impl Print + Eprint), refusal: u8) -> bool {
+    let line = frames::refusal_line(refusal);
     let text = line.bytes;
     let end = line.length;
-    if put(rt, &text[..end]) {
-        let length = written.length;
-        put(rt, &output[..length]);
+    put(rt, &text[..end])
+}
+
+// The line `0` and the sheet of the recurrence, or the line of the refusal alone.
+fn answer(rt: &(impl Print + Eprint), sheet: &[u8]) {
+    let mut output = room();
+    match differential::write_recurrence(sheet, &mut output) {
+        Ok(length) => {
+            if put_line(rt, 0) {
+                put(rt, &output[..length]);
+            }
+        }
+        Err(refusal) => {
+            put_line(rt, refusal.number());
+        }
     }
 }
 
 fn main(rt: HostRuntime) {
     let mut sheet = input();
-    let filled = fill(&rt, &mut sheet);
-    if !filled.failed {
-        let count = filled.count;
+    if let Some(count) = fill(&rt, &mut sheet) {
         answer(&rt, &sheet[..count]);
     }
 }

@@ -20,6 +20,7 @@ pub fn read_full(rt: &impl Input, store: &mut [u8]) -> usize
 {
     let mut reader = rt.reader();
     let mut done = 0;
+    // No count: a read takes as many bytes as there are.
     while done < store.len() {
         match reader.read(&mut store[done..]) {
             Ok(0) | Err(_) => return done,

@@ -35,11 +35,7 @@ pub fn is_negative(a: i64) -> bool
 pub fn magnitude(a: i64) -> u64
     ensures { result ≡ nat_abs a }
 {
-    if a < 0 {
-        (-(a + 1)) as u64 + 1
-    } else {
-        a as u64
-    }
+    a.unsigned_abs()
 }
 
 // Every i64 but -2^63 has a negation.

@@ -7,29 +7,22 @@
 // equations, and their column order.
 #![tactic(auto)]
 
-ghost use Rattle.std.specs.Prelude.{◌≡◌, true, false, ◌+◌, ◌≤◌, length};
+ghost use Rattle.std.specs.Prelude.{◌≡◌, true, false, ◌+◌, ◌≤◌, IfSome, length};
 
-use elimination::RunResult;
+use elimination::RunReport;
 use printing::{print, print_signed, print_size};
+use refusals::Refusal;
+use sides::Side;
 use stores::lengths::{RELATIONS, ROWS};
 use stores::validity::Sizes;
 
-// A case: its side, and where its sheet begins and ends. A case that is broken ends at 0.
+// A case: its side, and where its sheet begins and ends.
 #[derive(Drop)]
+#[derive(Clone, Copy)]
 struct Case {
-    trailing: bool,
+    side: Side,
     from: usize,
     to: usize,
-}
-
-fn broken() -> Case
-    ensures { result ≡ record { trailing = false; from = 0; to = 0 } }
-{
-    Case {
-        trailing: false,
-        from: 0,
-        to: 0,
-    }
 }
 
 // Does the word stand in the input from a place on?
@@ -40,64 +33,86 @@ fn stands(input: &[u8], at: usize, word: &[u8]) -> bool
     input[at..].starts_with(word)
 }
 
-// The sheet whose byte count stands from a place on.
-fn sheet_after(input: &[u8], at: usize, trailing: bool) -> Case
+// The sheet whose byte count stands from a place on, or none where it is broken.
+fn sheet_after(input: &[u8], at: usize, side: Side) -> Option<Case>
     requires { at ≤ length input.now }
-    ensures { (result.from ≤ result.to) × (result.to ≤ length input.now) }
+    ensures { IfSome result (λ case. (case.from ≤ case.to) × (case.to ≤ length input.now)) }
 {
-    let count = tokens::number_between(input, at, 0, 32768, 10);
+    let Ok(count) = tokens::number_between(input, at, 0, 32768, 10) else {
+        return None;
+    };
     let from = count.at;
     let size = integers::magnitude(count.value) as usize;
     if input.len() - from < size {
-        return broken();
+        return None;
     }
-    Case {
-        trailing,
+    Some(Case {
+        side,
         from,
         to: from + size,
-    }
+    })
 }
 
-fn case_at(input: &[u8], at: usize) -> Case
+fn case_at(input: &[u8], at: usize) -> Option<Case>
     requires { at ≤ length input.now }
-    ensures { (result.from ≤ result.to) × (result.to ≤ length input.now) }
+    ensures { IfSome result (λ case. (case.from ≤ case.to) × (case.to ≤ length input.now)) }
 {
     if stands(input, at, b"leading ") {
-        return sheet_after(input, at + 8, false);
+        return sheet_after(input, at + 8, Side::Leading);
     }
     if stands(input, at, b"trailing ") {
-        return sheet_after(input, at + 9, true);
+        return sheet_after(input, at + 9, Side::Trailing);
     }
-    broken()
+    None
 }
 
-fn print_root(rt: &impl Print, r: RunResult) {
-    print(rt, b" root");
-    if r.has_root {
-        print_signed(rt, r.root);
-    } else {
-        print(rt, b" none");
+// A refused run, or a sheet that is not read: no relation, no shift, no row and no root.
+fn nothing() -> RunReport {
+    RunReport {
+        relations: 0,
+        shifts: 0,
+        order: [0; 4],
+        root: None,
+        rank: 0,
     }
 }
 
-fn print_result(rt: &impl Print, r: RunResult, trailing: bool) {
-    if trailing {
-        print(rt, b"trailing");
-        print_size(rt, r.refusal as u64);
-    } else {
-        print(rt, b"leading");
-        print_size(rt, r.refusal as u64);
-        print(rt, b" relations");
-        print_size(rt, r.relations as u64);
+fn print_report(rt: &impl Print, refusal: u8, report: RunReport, side: Side) {
+    match side {
+        Side::Trailing => {
+            print(rt, b"trailing");
+            print_size(rt, refusal as u64);
+        }
+        Side::Leading => {
+            print(rt, b"leading");
+            print_size(rt, refusal as u64);
+            print(rt, b" relations");
+            print_size(rt, report.relations as u64);
+        }
     }
     print(rt, b" shifts");
-    print_size(rt, r.shifts as u64);
-    print_root(rt, r);
+    print_size(rt, report.shifts as u64);
+    print(rt, b" root");
+    let mut times = 0;
+    match report.root {
+        Some(root) => {
+            print_signed(rt, root.value);
+            times = root.times;
+        }
+        None => print(rt, b" none"),
+    }
     print(rt, b" rank");
-    print_size(rt, r.rank as u64);
+    print_size(rt, report.rank as u64);
     print(rt, b" mult");
-    print_size(rt, r.multiplicity as u64);
+    print_size(rt, times as u64);
     print(rt, b"\n");
+}
+
+fn print_result(rt: &impl Print, run: Result<RunReport, Refusal>, side: Side) {
+    match run {
+        Ok(report) => print_report(rt, 0, report, side),
+        Err(refusal) => print_report(rt, refusal.number(), nothing(), side),
+    }
 }
 
 // The coefficients from power 0 up to the highest that is not 0; that of power 0 in any case.
@@ -146,9 +161,9 @@ fn print_sheet(
     order: [usize; 4],
 ) {
     let mut bytes = inputs::large_buffer();
-    let written = sheets::write_sheet(rows, relations, sizes, count, order, &mut bytes);
-    let length = written.length;
-    print(rt, &bytes[..length]);
+    if let Ok(length) = sheets::write_sheet(rows, relations, sizes, count, order, &mut bytes) {
+        print(rt, &bytes[..length]);
+    }
 }
 
 // What an accepted run leaves: on the leading side the diagonal stands in block l, on the trailing side in block t.
@@ -157,14 +172,17 @@ fn print_accepted(
     rows: &[i64],
     relations: &[i64],
     sizes: Sizes,
-    r: RunResult,
-    trailing: bool,
+    report: RunReport,
+    side: Side,
 ) {
-    let order = r.order;
-    let block = if trailing { sizes.t } else { sizes.l };
+    let order = report.order;
+    let block = match side {
+        Side::Leading => sizes.l,
+        Side::Trailing => sizes.t,
+    };
     print_diagonal(rt, rows, sizes, block, order);
     print_right_sides(rt, rows, sizes);
-    print_sheet(rt, rows, relations, sizes, r.relations, order);
+    print_sheet(rt, rows, relations, sizes, report.relations, order);
 }
 
 fn run_side(
@@ -172,64 +190,53 @@ fn run_side(
     relations: &mut [i64],
     sizes: Sizes,
     count: usize,
-    trailing: bool,
-) -> RunResult {
-    if trailing {
-        elimination::run_trailing(rows, relations, sizes, count)
-    } else {
-        elimination::run_leading(rows, relations, sizes, count)
+    side: Side,
+) -> Result<RunReport, Refusal> {
+    match side {
+        Side::Leading => elimination::run_leading(rows, relations, sizes, count),
+        Side::Trailing => elimination::run_trailing(rows, relations, sizes, count),
     }
 }
 
-// A sheet that is not read.
-fn refused(refusal: u8) -> RunResult {
-    RunResult {
-        refusal,
-        relations: 0,
-        shifts: 0,
-        order: [0; 4],
-        has_root: false,
-        root: 0,
-        rank: 0,
-        multiplicity: 0,
-    }
-}
-
-fn run_sheet(rt: &impl Print, sheet: &[u8], trailing: bool) {
+fn run_sheet(rt: &impl Print, sheet: &[u8], side: Side) {
     let mut rows = [0i64; ROWS];
     let mut relations = [0i64; RELATIONS];
-    let read = sheets::read_sheet(sheet, &mut rows, &mut relations);
-    if read.refusal != 0 {
-        print_result(rt, refused(read.refusal), trailing);
-        return;
-    }
+    let read = match sheets::read_sheet(sheet, &mut rows, &mut relations) {
+        Ok(read) => read,
+        Err(refusal) => {
+            print_result(rt, Err(refusal), side);
+            return;
+        }
+    };
     let sizes = read.sizes;
-    let r = run_side(&mut rows, &mut relations, sizes, read.relations, trailing);
-    print_result(rt, r, trailing);
-    if r.refusal == 0 {
+    let run = run_side(&mut rows, &mut relations, sizes, read.relations, side);
+    print_result(rt, run, side);
+    if let Ok(report) = run {
         let kept = Sizes {
             m: sizes.m,
-            equations: r.rank,
+            equations: report.rank,
             l: sizes.l,
             t: sizes.t,
         };
-        print_accepted(rt, &rows, &relations, kept, r, trailing);
+        print_accepted(rt, &rows, &relations, kept, report, side);
     }
 }
 
 // Every case, up to one that is broken.
 fn run_cases(rt: &impl Print, input: &[u8]) {
     let mut at = 0;
+    // No count: a case is as long as it is.
     while at < input.len() {
-        let case = case_at(input, at);
-        let from = case.from;
-        let to = case.to;
-        if to <= at {
-            print(rt, b"broken\n");
-            return;
+        match case_at(input, at) {
+            Some(Case { side, from, to }) if at < to => {
+                run_sheet(rt, &input[from..to], side);
+                at = to;
+            }
+            _ => {
+                print(rt, b"broken\n");
+                return;
+            }
         }
-        run_sheet(rt, &input[from..to], case.trailing);
-        at = to;
     }
 }
 

@@ -17,10 +17,11 @@
 --   every-cons                             the first member and the others
 --   every-get_or, every-from-at, every_from_all   the members at the places, and at the places from n on
 --   every-false, every-member              a member that fails; members that pass
+--   every-each                             what tells whether each member passes
 --   every_append, every-join, every-flatten     the test of ++ and of flatten
 --   every_take, every_drop, every-part, every-longer, every-reverse   of parts, of one member more, of the reverse
-use Rattle.std.specs.Prelude.{◌≡◌, refl, ◌↔◌, ◌⊎◌, Bool, cond, not, true, false, ◌&&◌, ◌||◌, T, eqb, length, get_or, take, drop}
-use Rattle.std.proofs.Common.{sym, ◌∙◌, ap, ap₂, subst, inl, inr, ⊎_elim, true≢false, suc-ne-zero, le_of_suc-le-suc, not-suc-le-zero, add-sub_of_le, add-one, arith, length-drop, take-suc, get_or-drop}
+use Rattle.std.specs.Prelude.{◌≡◌, refl, ◌↔◌, ◌⊎◌, Bool, cond, not, true, false, ◌&&◌, ◌||◌, T, IsTrue, EachIndex, eqb, length, get_or, take, drop}
+use Rattle.std.proofs.Common.{sym, ◌∙◌, ap, ap₂, subst, inl, inr, ⊎_elim, true≢false, suc-ne-zero, le_of_suc-le-suc, not-suc-le-zero, zero-le, add-sub_of_le, add-one, arith, length-drop, take-suc, get_or-drop}
 use Rattle.std.proofs.lemmas.Bool.{false≢true}
 use Rattle.std.proofs.Math.Bool.{and-false, and_assoc}
 use Prim.Native.Nat.{ℕ, zero, suc, ◌+◌, ◌-◌, ◌≤◌, ◌<◌}
@@ -178,6 +179,10 @@ pub every-member : {A : Type 0} (t : A → Bool) (l : List A) → ((x : A) → M
 unfolding every
 every-member t [] h = tt
 every-member t (x ∷ l) h = (T-&& (t x) (every t l)).1 (h x mem-cons_self, every-member t l (λ y m. h y (mem-cons_of_mem x m)))
+
+-- What `all` tells of a slice: whether the member at each place passes.
+pub every-each : {A : Type 0} (t : A → Bool) (l : List A) (d : A) (b : Bool) → (IsTrue b ↔ EachIndex l (λ i. T (t (get_or l i d)))) → b ≡ every t l
+every-each t l d b h = same_test b (every t l) (λ p. every_from_all t l d 0 (λ i low high. h.0 (true_of b p) i high)) (λ q. true-T b (h.1 (λ i high. every-from-at t l d 0 q i zero-le high)))
 
 -- ---- the test of lists made from others
 

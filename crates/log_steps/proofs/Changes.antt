@@ -3,7 +3,7 @@
 -- Main statements
 --   changed-view, replayed-view   a step that goes on is a change, and so are the steps of a log
 use Prim.Native.Nat.{ℕ}
-use Rattle.std.specs.Prelude.{◌≡◌, ◌≢◌, ◌&&◌, not, List, [], ◌∷◌, ◌++◌, T, leb, ltb, eqb, length, ℤ}
+use Rattle.std.specs.Prelude.{◌≡◌, ◌&&◌, not, List, [], ◌∷◌, ◌++◌, T, leb, ltb, eqb, length, ℤ}
 use Rattle.std.proofs.Math.Path.{refl, subst}
 use Rattle.std.proofs.Common.{sym, leb→le, ltb→lt, T_not}
 use Rattle.std.proofs.Math.Option.{Option, none, some}

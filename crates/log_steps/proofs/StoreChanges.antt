@@ -3,11 +3,11 @@
 -- Main statements
 --   step-refused               a step whose condition fails
 --   two-rows-at, exchange-allowed, exchange-stepped   the exchange
---   raise-allowed, raise-stepped, lower-allowed, lower-stepped   the shifts
+--   raise-allowed, raise-unlost, raise-stepped, lower-allowed, lower-unlost, lower-stepped   the shifts
 --   drop-allowed, drop-stepped the drop of a row
 use Prim.Native.Nat.{ℕ, ◌-◌, ◌≤◌, ◌<◌}
 use Rattle.std.proofs.Math.Nat.{le_refl}
-use Rattle.std.proofs.Common.{add-one, arith, sym, ◌∙◌}
+use Rattle.std.proofs.Common.{add-one, arith, sym, ◌∙◌, inl, inr}
 use Rattle.std.specs.Prelude.{◌≡◌, true, false, ◌&&◌, cond, List, [], eqb, ℤ, length, take, get_or, set}
 use Rattle.std.proofs.Math.Path.{refl, ap, ap₂}
 use Rattle.std.proofs.Math.Bool.{not}
@@ -25,7 +25,6 @@ use Rattle.working_rows.specs.Worked.{refusal_of, numbers_of}
 use Rattle.sides.specs.Lent.{Within}
 use Rattle.sides.specs.StoreStates.{kept_same}
 use Rattle.reduction.specs.declared.step.Progress.{Progress}
-use Rattle.reduction.specs.declared.step.Outcome as Answer
 use Rattle.reduction.specs.Progress.{Ready, state, state_of, outcome_of, answer_of, shifted_progress, dropped_progress, ready_with}
 use Rattle.reduction.specs.NewRows.{saved}
 use Rattle.reduction.specs.NewRows.{shifted-storable}
@@ -34,7 +33,7 @@ use Rattle.reduction.specs.Dropping.{dropped, dropped-rows, dropped-within, drop
 use Rattle.reduction.specs.StepLaws.{shifted_row_of, refused-reached}
 use Rattle.log_steps.specs.Logs.{Change, exchanging, raising, lowering, dropping, allowed, applied, changed, two_rows_of}
 use Rattle.log_steps.specs.Logs.{lower_row_of}
-use Rattle.log_steps.specs.StoreChanges.{Stepped, changed-true, lowered-storable, put-stepped, stepped_same}
+use Rattle.log_steps.specs.StoreChanges.{Stepped, Unlost, changed-true, lowered-storable, put-stepped, stepped_same}
 
 changed-false : (D : ℕ) (s : State) (c : Change) → allowed D s c ≡ false → changed D s c ≡ refused 13
 unfolding changed
@@ -204,3 +203,12 @@ module _ (D : ℕ) {rows relations : List ℤ} {p : Progress} (ready : Ready row
         where
           w : Within (row_need n) rows
           w = ready.rows-within
+
+    -- The block that a shift takes from the row is not zero, or there is no such row.
+    pub raise-unlost : Unlost rows p i 0 → allowed D s (raising i) ≡ false
+    raise-unlost (inl h) = absent-raised h
+    raise-unlost (inr h) = raise-allowed h.0 ∙ h.1
+
+    pub lower-unlost : Unlost rows p i D → allowed D s (lowering i) ≡ false
+    lower-unlost (inl h) = absent-lowered h
+    lower-unlost (inr h) = lower-allowed h.0 ∙ h.1

@@ -1,4 +1,5 @@
 pub mod Logs
+pub mod Kinds
 pub mod Changes
 pub mod ShiftedDown
 pub mod Divided

@@ -2,6 +2,8 @@
 --
 -- Main definitions
 --   Begun rows p               what a step asks of the row store and of the progress: no row is settled
+--   SteppedTo rows .. p r x    the same of its result r
+--   Losing rows p i block row, Unlost rows p i block   row i, from which a shift takes a zero block, and none
 --   Stepped rows .. p o x      what a step gives: its outcome is x, it ends nothing, and no row is settled
 --
 -- Main statements
@@ -11,10 +13,10 @@
 --   lowered-storable           a row whose blocks go up has room in the store
 --   given-changed, given-none  a step that is well formed, and one that is not
 --   combining-changed, positive-size   a combination whose condition holds, and its integer
-use Prim.Native.Nat.{ℕ, zero, suc, ◌+◌, ◌*◌, ◌-◌, ◌≤◌, ◌<◌}
+use Prim.Native.Nat.{ℕ, zero, suc, ◌+◌, ◌*◌, ◌≤◌, ◌<◌}
 use Rattle.std.proofs.Math.Nat.{le_refl}
 use Rattle.std.proofs.Common.{zero-lt-suc, arith, sym, subst, subst₂, ltb→lt}
-use Rattle.std.specs.Prelude.{◌≡◌, true, false, ◌&&◌, cond, List, T, eqb, ℤ, pos, negsuc, nat_abs, length}
+use Rattle.std.specs.Prelude.{◌≡◌, ◌⊎◌, Result, true, false, ◌&&◌, cond, List, [], T, eqb, ℤ, pos, negsuc, nat_abs, length, get_or}
 use Rattle.std.proofs.Math.Path.{refl, ap}
 use Rattle.std.proofs.Math.Bool.{not}
 use Rattle.std.proofs.Math.Option.{Option, none, some}
@@ -23,18 +25,24 @@ use Rattle.std.specs.Int.Signed.{lt_z}
 use Rattle.algebra.specs.Polynomials.{Polynomial}
 use Rattle.lists.specs.Tests.{T-&&}
 use Rattle.rules.specs.Limits.{most_equations, block_count, column_count, coefficient_count, row_length}
+use Rattle.rules.specs.Rows.{zero_block}
+use Rattle.rules.specs.Rows as Rows
 use Rattle.rules.specs.Stores.{row_of, row_need, relation_need}
 use Rattle.rules.specs.Layout.{StoreRow-row_of}
 use Rattle.rules.specs.Elimination.{State, Outcome, refused, Limited, put_limited_of}
 use Rattle.rules.specs.Elimination.{limit_coefficients}
 use Rattle.theory.specs.ShiftDown.{shift_down, shift_down-shaped}
+use Rattle.working_rows.specs.declared.WorkingRow.{WorkingRow}
 use Rattle.working_rows.specs.Worked.{refusal_of, numbers_of, held}
+use Rattle.refusals.specs.declared.Refusal.{Refusal}
 use Rattle.sides.specs.Lent.{Within, Kept}
 use Rattle.reduction.specs.declared.step.Progress.{Progress}
-use Rattle.reduction.specs.declared.step.Outcome as Answer
+use Rattle.reduction.specs.Answer as Answer
+use Rattle.reduction.specs.Answer.{step_answer}
 use Rattle.reduction.specs.Progress.{Ready, Reached, state_of, answer_of, ready_with}
 use Rattle.reduction.specs.NewRows.{row_room, Storable, saved, saved-within, saved-kept, saved-outcome}
 use Rattle.reduction.specs.NewRows.{coefficients-storable}
+use Rattle.reduction.specs.StoreExchange.{numbers_at, Loaded}
 use Rattle.reduction.specs.Dropping.{freed-none}
 use Rattle.log_steps.specs.Logs.{Change, combining, allowed, applied, changed}
 use Rattle.log_steps.specs.Logs.{combine_rows_of, changed_if}
@@ -55,11 +63,27 @@ pub record Stepped (rows relations rows' relations' : List ℤ) (p : Progress) (
   pub goes_on : o.done ≡ false
   pub unsettled : o.progress.settled ≡ 0
 
+-- The same of a step's result: with a refusal the stores are those of the progress `left`.
+pub record SteppedTo (rows relations rows' relations' : List ℤ) (p : Progress) (r : Result Progress Refusal) (x : Outcome) : Type 0 where
+  pub left : Progress
+  pub stepped : Stepped rows relations rows' relations' p (step_answer r left) x
+
 pub stepped_same : {rows relations rows' rows'' relations' : List ℤ} {p : Progress} {o o' : Answer.Outcome} {x x' : Outcome}
     → rows' ≡ rows'' → o ≡ o' → x ≡ x' → Stepped rows relations rows'' relations' p o' x' → Stepped rows relations rows' relations' p o x
 stepped_same {rows} {relations} {rows'} {rows''} {relations'} {p} {o} {o'} {x} {x'} e f g h =
     subst (λ r. Stepped rows relations r relations' p o x) (sym e)
     (subst₂ (λ a b. Stepped rows relations rows'' relations' p a b) (sym f) (sym g) h)
+
+-- The row that a shift takes a zero block from, as it is loaded,
+pub record Losing (rows : List ℤ) (p : Progress) (i block : ℕ) (row : WorkingRow) : Type 0 where
+  pub inside : i < p.rows
+  pub lost : zero_block (get_or (row_of (numbers_at rows i)).blocks block []) ≡ true
+  pub loaded : Loaded rows i row
+  pub wide : row.width ≡ Rows.width (row_of row.entries)
+
+-- or there is none.
+abbrev pub Unlost : List ℤ → Progress → ℕ → ℕ → Type 0
+Unlost rows p i block = (p.rows ≤ i) ⊎ ((i < p.rows) × (zero_block (get_or (row_of (numbers_at rows i)).blocks block []) ≡ false))
 
 -- Two rows that pass the test are present.
 pub two-places : (i j n : ℕ) → ((ltb i n && ltb j n) && not (eqb i j)) ≡ true → (i < n) × (j < n)

@@ -3,13 +3,14 @@
 -- Main definitions
 --   new_row d g h target pivot   the new row with its limits, from the numbers of both rows
 --   judged_row d g h target pivot   the new row, or 13 where the integer does not divide every coefficient
+--   Judged o x                   o is x as the code gives it: none is 13
 --   quotient_of d row            a row divided by the integer with its limit, or 13
 --
 -- Main statements
 --   judged-exact, judged-inexact, quotient-exact, quotient-inexact   the two cases
 --   exact-judged, inexact-judged   the refusal tells whether the integer divides every coefficient
-use Rattle.std.specs.Prelude.{ℕ, ◌≡◌, ◌≢◌, Bool, List, ℤ}
-use Rattle.std.proofs.Common.{arith, ◌∙◌}
+use Rattle.std.specs.Prelude.{ℕ, ◌≡◌, ◌≢◌, Bool, List, ℤ, Option, Result}
+use Rattle.std.proofs.Common.{Some, None, arith, ◌∙◌}
 use Rattle.std.proofs.Math.Path.{refl, sym, ap}
 use Rattle.std.proofs.Math.Bool.{true, false, cond}
 use Rattle.algebra.specs.Gcd.{divide_by}
@@ -17,9 +18,10 @@ use Rattle.algebra.specs.Polynomials.{Polynomial}
 use Rattle.rules.specs.Rows.{Row, map_row, coefficients_of, combine, low_degrees, small_row, cut}
 use Rattle.rules.specs.Stores.{row_of}
 use Rattle.rules.specs.Elimination.{Limited, within, beyond, limit_degrees, limit_coefficients}
+use Rattle.refusals.specs.declared.Refusal.{Refusal}
 use Rattle.working_rows.specs.declared.WorkingRow.{WorkingRow}
 use Rattle.working_rows.specs.Working.{numbers_held}
-use Rattle.working_rows.specs.Worked.{refusal_of}
+use Rattle.working_rows.specs.Worked.{refusal_of, Shown}
 use Rattle.log_steps.specs.Logs.{divides_all}
 
 abbrev pub new_row : ℕ → Polynomial → Polynomial → List ℤ → List ℤ → Limited
@@ -36,6 +38,11 @@ judged_row d g h target pivot =
 unfoldable pub quotient_of : ℕ → WorkingRow → Limited
 unfolding divides_all limit_coefficients row_of divide_by
 quotient_of d row = cond (divides_all d (numbers_held row)) (limit_coefficients (row_of (divide_by d (numbers_held row)))) (beyond 13)
+
+-- What the code makes of it: nothing where the integer does not divide every coefficient, otherwise the row, or the limit that it breaks.
+abbrev pub Judged : Option (Result WorkingRow Refusal) → Limited → Type 0
+Judged None x = refusal_of x ≡ 13
+Judged (Some w) x = (refusal_of x ≢ 13) × Shown w x
 
 pub quotient-exact : (d : ℕ) (row : WorkingRow) → divides_all d (numbers_held row) ≡ true
     → quotient_of d row ≡ limit_coefficients (row_of (divide_by d (numbers_held row)))

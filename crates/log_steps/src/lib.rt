@@ -4,5 +4,6 @@
 
 pub mod changing;
 pub mod combining;
+pub mod kinds;
 pub mod lengths;
 mod lowering;

@@ -19,7 +19,9 @@ use Rattle.rules.specs.Rows.{Row, Relation}
 use Rattle.rules.specs.Elimination.{State, Outcome, done, refused, leading, whole_run_of}
 use Rattle.rules.specs.Stores.{Sizes, equations, span, rows_of, relations_of, check_stores_of, sizes_right_of, count_right, lengths_right_of, numbers_right_of}
 use Rattle.rules.specs.Calls.{zeros, refusal, unchanged, after_run_of, after_check, call_run}
-use Rattle.runs.specs.declared.RunResult.{RunResult}
+use Rattle.std.specs.Prelude.{Result}
+use Rattle.refusals.specs.declared.Refusal.{Refusal}
+use Rattle.runs.specs.declared.RunReport.{RunReport}
 use Rattle.runs.specs.CallLaws.{result_of, call_of}
 use Rattle.log_steps.specs.Logs.{most_steps, log_need, own_need}
 use Rattle.logs.specs.LogCalls.{check_replay, LoggedCall, logged_after, after_logged_check, logged_call}
@@ -97,7 +99,7 @@ module _ (z : Sizes) (count : ℕ) (log rows relations : List ℤ) where
   given = relations_of count relations
 
   -- Refusals 1, 2 and 5.
-  pub logged-refused : (r : RunResult) (n : ℕ) → n ≢ 0 → n ≡ check_replay z count most_steps log rows relations → result_of r ≡ refusal n
+  pub logged-refused : (r : Result RunReport Refusal) (n : ℕ) → n ≢ 0 → n ≡ check_replay z count most_steps log rows relations → result_of r ≡ refusal n
       → logged_of (record { run = r; steps = 0 }) rows relations log ≡ logged_call z count log rows relations
   unfolding logged_call after_logged_check unchanged call_of
   logged-refused r zero h e f = absurd (h refl)
@@ -106,7 +108,7 @@ module _ (z : Sizes) (count : ℕ) (log rows relations : List ℤ) where
       ∙ ap (after_logged_check z count log rows relations) e
 
   -- What a run leaves is what its call leaves.
-  module _ (r : RunResult) (steps : ℕ) (rows' relations' log' : List ℤ) (passed : check_replay z count most_steps log rows relations ≡ 0)
+  module _ (r : Result RunReport Refusal) (steps : ℕ) (rows' relations' log' : List ℤ) (passed : check_replay z count most_steps log rows relations ≡ 0)
       (right : check_stores_of z count rows relations ≡ 0) (call : call_of r rows' relations' ≡ call_run leading z count rows relations) where
     after_run : (x : Outcome) → whole_run_of leading (span z) input given ≡ x → call_of r rows' relations' ≡ after_run_of leading z x rows relations
     unfolding call_run after_check

@@ -24,11 +24,13 @@ use Rattle.theory.specs.Settled.{Diagonal, nonzero-of-diagonal}
 use Rattle.sides.specs.FurthestRoots.{Nonzero}
 use Rattle.sides.specs.ReportLaws.{settled_state, diagonal-settled}
 use Rattle.reduction.specs.declared.step.Progress.{Progress}
-use Rattle.reduction.specs.declared.step.Outcome as Answer
+use Rattle.reduction.specs.Answer as Answer
 use Rattle.reduction.specs.Progress.{Ready, state_of, start_progress}
 use Rattle.reduction.specs.Progress as Progress
 use Rattle.reduction.specs.RunLaws.{start-ready}
-use Rattle.runs.specs.declared.RunResult.{RunResult}
+use Rattle.std.specs.Prelude.{Result}
+use Rattle.refusals.specs.declared.Refusal.{Refusal}
+use Rattle.runs.specs.declared.RunReport.{RunReport}
 use Rattle.runs.specs.CallLaws as RunLaws
 use Rattle.log_steps.specs.Logs.{most_steps, replay, log_need}
 use Rattle.logs.specs.LogCalls.{check_replay, replay_stores, after_replay_check, replay_call}
@@ -184,7 +186,7 @@ module _ (z : Sizes) (count steps : ℕ) (log rows relations : List ℤ) where
         (nonzero-of-diagonal leading (rank v) z.m (span z) v
         (subst (λ u. Diagonal leading (rank u) z.m (span z) u) here (diagonal-nonzero a))))
 
-module _ (z : Sizes) (count steps : ℕ) (log rows relations : List ℤ) (r : RunResult) where
+module _ (z : Sizes) (count steps : ℕ) (log rows relations : List ℤ) (r : Result RunReport Refusal) where
   -- Refusals 1, 2 and 5.
   pub call-unchanged : (n : ℕ) → n ≢ 0 → n ≡ check_replay z count steps log rows relations → RunLaws.result_of r ≡ refusal n
       → RunLaws.call_of r rows relations ≡ replay_call z count steps log rows relations

@@ -8,17 +8,19 @@ ghost use Rattle.runs.specs.CallLaws as RunLaws;
 ghost use Rattle.logs.specs.LogCalls as LogCalls;
 ghost use Rattle.logs.specs.LoggedRuns.{logged_of};
 
+use log_steps::lengths::STEPS;
 use reduction::step::Progress;
+use refusals::Refusal;
+use runs::RunReport;
 use sides::Side;
-use stores::lengths::COLUMNS;
 
 mod checks;
 mod written;
 
 // The result of our own run, and the steps of the log that it has written (SCOPE 13.5).
-#[derive(Drop)]
+#[derive(Clone, Copy)]
 pub struct Logged {
-    pub run: runs::RunResult,
+    pub run: Result<RunReport, Refusal>,
     pub steps: usize,
 }
 
@@ -33,10 +35,11 @@ pub fn run_logged(
     ensures { logged_of result rows.new relations.new log.new
         ≡ LogCalls.logged_call (the_sizes_of sizes) count log.old rows.old relations.old }
 {
-    let refusal = written::check(rows, relations, sizes, count, log);
-    if refusal != 0 {
-        let run = runs::refused(refusal);
-        return Logged { run, steps: 0 };
+    if let Err(refusal) = checks::check(rows, relations, sizes, count, STEPS, log) {
+        return Logged {
+            run: Err(refusal),
+            steps: 0,
+        };
     }
     written::checked_run(rows, relations, sizes, count, log)
 }
@@ -49,26 +52,15 @@ fn checked_replay(
     count: usize,
     steps: usize,
     log: &[i64],
-) -> runs::RunResult
+) -> Result<RunReport, Refusal>
     requires { LogCalls.check_replay (the_sizes_of sizes) count steps log.now rows.old relations.old ≡ 0 }
     ensures { RunLaws.call_of result rows.new relations.new
         ≡ LogCalls.replay_call (the_sizes_of sizes) count steps log.now rows.old relations.old }
 {
-    let first = Progress {
-        rows: sizes.equations,
-        settled: 0,
-        order: [0; COLUMNS],
-        count,
-        shifts: 0,
-    };
+    let first = Progress::start(sizes.equations, count);
     let span = stores::validity::span(sizes);
-    let o = replays::replay_on(rows, relations, sizes.m, span, steps, log, first);
-    let refusal = o.refusal;
-    if refusal != 0 {
-        return runs::refused(refusal);
-    }
-    let p = o.progress;
-    runs::accepted(rows, span, Side::Leading, p)
+    let p = replays::replay_on(rows, relations, sizes.m, span, steps, log, first)?;
+    Ok(runs::accepted(rows, span, Side::Leading, p))
 }
 
 // The replay of a log on lent stores: the checks, and the steps; the log is only read (SCOPE 13.4, 13.41, 13.42).
@@ -79,13 +71,10 @@ pub fn replay(
     count: usize,
     steps: usize,
     log: &[i64],
-) -> runs::RunResult
+) -> Result<RunReport, Refusal>
     ensures { RunLaws.call_of result rows.new relations.new
         ≡ LogCalls.replay_call (the_sizes_of sizes) count steps log.now rows.old relations.old }
 {
-    let refusal = checks::check(rows, relations, sizes, count, steps, log);
-    if refusal != 0 {
-        return runs::refused(refusal);
-    }
+    checks::check(rows, relations, sizes, count, steps, log)?;
     checked_replay(rows, relations, sizes, count, steps, log)
 }

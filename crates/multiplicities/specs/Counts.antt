@@ -1,27 +1,31 @@
--- The roots of a polynomial in an array, and beside them how often each occurs.
+-- The roots of a polynomial in an array, each with how often it occurs.
 --
 -- Main definitions
---   listed_with l          the arrays that hold the pairs l, zeros past their end
---   held_with w            the pairs that the arrays hold; roots_alone w, roots_held w the numbers alone, as an array and as a list
---   times_in p rs          each of the numbers rs, with how often it occurs as a root of p; counts p rs how often each, as an array
---   filled f rs i         the counts f of the first i of rs, zeros behind
---   with_times_of p a         an answer about p, with how often its root occurs
---   answered_with p o      a root of p or none, as such an answer
+--   root_of, pair_of       a pair as the code holds it, and back; no_root zeros
+--   listed_with l          the array that holds the pairs l, zeros past their end
+--   held_with w            the pairs that the array holds; roots_held w the numbers alone
+--   times_in p rs          each of the numbers rs, with how often it occurs as a root of p
+--   counted p rs i         the first i of them in an array, zeros behind
+--   with_times_of p o      a root of p or none, with how often it occurs
+--   answered_with p o      the same of an answer of the rules
 --
 -- Main statements
---   held_with-of, value-at, times-at   the pairs that are held, and one of them
---   times-arrays, roots-alone, found-alone   numbers with how often each occurs, and roots, in the arrays
---   roots-within          the roots of a small polynomial are within ±C
---   filled_next           one count more
---   filled-all            all of them
---   furthest-small        the largest and the smallest root are within ±C, and so is the 0 beside "no"
-use Rattle.std.specs.Prelude.{ℕ, suc, ◌+◌, ◌-◌, ◌≤◌, ◌<◌, ◌≡◌, refl, cond, T, ℤ, pos, nat_abs, length, get_or, take, set, replicate}
-use Rattle.std.proofs.Common.{zero-le, sym, ◌∙◌, ap, ap₂, ⊎_elim, le_refl, eq-zero-or-pos, add-one, arith, le→leb, take_all, take-suc, length-take-le}
+--   held_with-of, roots_held-of, root-at   the pairs that are held, the numbers alone, and one of them
+--   counted-next, counted-all   one count more; all of them
+--   times-held, found-held, found-count, found-long   the numbers that were counted, the roots, how many, and the places
+--   roots-within           the roots of a small polynomial are within ±C
+--   furthest-small         the largest and the smallest root are within ±C
+use Rattle.std.specs.Prelude as Prelude
+use Rattle.std.specs.Prelude.{ℕ, suc, ◌+◌, ◌-◌, ◌≤◌, ◌<◌, ◌≡◌, refl, T, ℤ, pos, nat_abs, length, get_or, take, set, replicate, None, Some, IfSome, slice_get}
+use Rattle.std.proofs.Common.{sym, ◌∙◌, ap, ap₂, le_refl, add-one, arith, le→leb, take_all, take-suc, length-append, length-take-le}
 use Rattle.std.proofs.Math.Logic.{by_cases}
+use Rattle.std.proofs.Math.Decide.{dec_le}
+use Rattle.std.proofs.Common.{subst, lt_of_not-le}
+use Rattle.std.proofs.lemmas.Option.{slice_get-get_or, slice_get_past}
 use Rattle.std.proofs.Math.Option.{Option}
-use mathlib.Core.List.{List, [], ◌∷◌, ◌++◌, map, map-append, map-map, map-id, zip, zip_with}
+use mathlib.Core.List.{List, [], ◌∷◌, ◌++◌, map, map-append, map-map, map-id}
 use Rattle.std.proofs.Math.Dec.{not_T}
-use Rattle.std.proofs.lemmas.List.{length-map}
+use Rattle.std.proofs.lemmas.List.{length-map, length-replicate}
 use Rattle.std.proofs.Math.ListN.{get_or-append}
 use Rattle.std.proofs.Math.Seq.{append_snoc, set-append_seam, take-append_seam}
 use Rattle.algebra.specs.Coefficients.{degree-is_zero}
@@ -33,62 +37,55 @@ use Rattle.lists.specs.Images.{get_or_map}
 use Rattle.lists.specs.Tests.{every, every-member, dec-T}
 use Rattle.rules.specs.Limits.{bound, small}
 use Rattle.rules.specs.Elimination.{Side, leading, trailing, furthest, roots_with_of}
-use Rattle.roots.specs.declared.RootAnswer.{RootAnswer}
-use Rattle.roots.specs.declared.RootList.{RootList}
-use Rattle.roots.specs.RootSearch.{held, listed}
-use Rattle.roots.specs.RootSearch.{answered, roots-small, roots-constant, roots-ascend, answered-none, answered-first, answered-last}
+use Rattle.roots.specs.RootSearch.{answered, roots-small, roots-constant, roots-ascend, answered-first, answered-last}
 use Rattle.multiplicities.specs.declared.RootsWith.{RootsWith}
-use Rattle.multiplicities.specs.declared.RootWith.{RootWith}
+use Rattle.multiplicities.specs.declared.Root.{Root}
+
+abbrev pub root_of : ℤ × ℕ → Root
+root_of x = record { value = x.0; times = x.1 }
+
+abbrev pub pair_of : Root → ℤ × ℕ
+pair_of r = (r.value, r.times)
+
+abbrev pub no_root : Root
+no_root = root_of (pos 0, 0)
 
 abbrev pub listed_with : List (ℤ × ℕ) → RootsWith
-listed_with l =
-    record {
-      count = length l;
-      values = map (λ x. x.0) l ++ replicate (16 - length l) (pos 0);
-      times = map (λ x. x.1) l ++ replicate (16 - length l) 0;
-    }
+listed_with l = record { count = length l; roots = map root_of l ++ replicate (16 - length l) no_root }
 
 -- The numbers alone, without how often each occurs.
-abbrev pub roots_alone : RootsWith → RootList
-roots_alone w = record { count = w.count; values = w.values }
-
 abbrev pub roots_held : RootsWith → List ℤ
-roots_held w = held (roots_alone w)
+roots_held w = map (λ r. r.value) (take w.count w.roots)
 
 abbrev pub held_with : RootsWith → List (ℤ × ℕ)
-held_with w = zip (roots_held w) (take w.count w.times)
-
-zip-parts : (l : List (ℤ × ℕ)) → zip (map (λ x. x.0) l) (map (λ x. x.1) l) ≡ l
-unfolding zip zip_with
-zip-parts [] = refl
-zip-parts (x ∷ l) = ap (λ m. x ∷ m) (zip-parts l)
+held_with w = map pair_of (take w.count w.roots)
 
 module _ {w : RootsWith} (l : List (ℤ × ℕ)) (e : w ≡ listed_with l) where
-  taken : {A : Type 0} (f : ℤ × ℕ → A) (zeros : List A) → take (length l) (map f l ++ zeros) ≡ map f l
-  taken f zeros = ap (λ n. take n (map f l ++ zeros)) (sym (length-map l f)) ∙ take-append_seam (map f l) zeros
+  taken : take w.count w.roots ≡ map root_of l
+  taken = ap (λ v. take v.count v.roots) e
+      ∙ ap (λ n. take n (map root_of l ++ replicate (16 - length l) no_root)) (sym (length-map l root_of))
+      ∙ take-append_seam (map root_of l) (replicate (16 - length l) no_root)
 
   pub roots_held-of : roots_held w ≡ map (λ x. x.0) l
-  roots_held-of = ap roots_held e ∙ taken (λ x. x.0) (replicate (16 - length l) (pos 0))
+  roots_held-of = ap (map (λ r. r.value)) taken ∙ map-map (λ r. r.value) root_of l
 
   pub held_with-of : held_with w ≡ l
-  held_with-of =
-      ap held_with e
-      ∙ ap₂ zip (taken (λ x. x.0) (replicate (16 - length l) (pos 0))) (taken (λ x. x.1) (replicate (16 - length l) 0)) ∙ zip-parts l
+  held_with-of = ap (map pair_of) taken ∙ map-map pair_of root_of l ∙ map-id l
 
   pub listed_with-held : w ≡ listed_with (held_with w)
   listed_with-held = e ∙ ap listed_with (sym held_with-of)
 
-  module _ (i : ℕ) (h : i < length l) where
-    at : {A : Type 0} (f : ℤ × ℕ → A) (zeros : List A) (d : A) → get_or (map f l ++ zeros) i d ≡ f (get_or l i (pos 0, 0))
-    at f zeros d = get_or-append (map f l) zeros d i (rw (length-map l f) h) ∙ get_or_map f l i (pos 0, 0) d h
-
-    pub value-at : get_or w.values i (pos 0) ≡ (get_or l i (pos 0, 0)).0
-    value-at = ap (λ v. get_or v.values i (pos 0)) e ∙ at (λ x. x.0) (replicate (16 - length l) (pos 0)) (pos 0)
-
-    pub times-at : get_or w.times i 0 ≡ (get_or l i (pos 0, 0)).1
-    times-at = ap (λ v. get_or v.times i 0) e ∙ at (λ x. x.1) (replicate (16 - length l) 0) 0
+  pub root-at : (i : ℕ) → i < length l → get_or w.roots i no_root ≡ root_of (get_or l i (pos 0, 0))
+  root-at i h =
+      ap (λ v. get_or v.roots i no_root) e
+      ∙ get_or-append (map root_of l) (replicate (16 - length l) no_root) no_root i (rw (length-map l root_of) h)
+      ∙ get_or_map root_of l i (pos 0, 0) no_root h
 
 -- ---- the roots
+
+slice_get-small : (l : List ℤ) (i : ℕ) → T (every small l) → IfSome (slice_get l i) (λ r. nat_abs r ≤ bound)
+slice_get-small l i t = by_cases (dec_le (length l) i) (λ h. rw (slice_get_past l i h) tt)
+    (λ h. rw (slice_get-get_or l i (pos 0) (lt_of_not-le h)) (small_at l t i))
 
 -- The zero polynomial has no root listed.
 pub roots-within : (p : Polynomial) → T (every small p) → T (every small (roots p))
@@ -99,83 +96,82 @@ roots-within p t =
 
 -- ---- the counts
 
-abbrev pub filled : (ℤ → ℕ) → List ℤ → ℕ → List ℕ
-filled f rs i = map f (take i rs) ++ replicate (16 - i) 0
-
-pub filled_next : (f : ℤ → ℕ) (rs : List ℤ) (i : ℕ) → i < length rs → i < 16
-    → set (filled f rs i) i (f (get_or rs i (pos 0))) ≡ filled f rs (i + 1)
-filled_next f rs i inside h =
-    ap₂ (λ n k. set (before ++ replicate n 0) k x) room here ∙ set-append_seam before 0 rest x ∙ sym (append_snoc before x rest)
-    ∙ ap (λ l. l ++ rest) (sym longer)
-  where
-    x : ℕ
-    x = f (get_or rs i (pos 0))
-
-    before : List ℕ
-    before = map f (take i rs)
-
-    rest : List ℕ
-    rest = replicate (16 - (i + 1)) 0
-
-    room : 16 - i ≡ suc (16 - (i + 1))
-    room = omega arith
-
-    here : i ≡ length before
-    here = sym (length-map (take i rs) f ∙ length-take-le i rs (omega arith))
-
-    longer : map f (take (i + 1) rs) ≡ before ++ (x ∷ [])
-    longer = ap (λ n. map f (take n rs)) (add-one i) ∙ ap (map f) (take-suc rs i (pos 0) inside)
-        ∙ map-append f (take i rs) (get_or rs i (pos 0) ∷ [])
-
 abbrev pub times_in : Polynomial → List ℤ → List (ℤ × ℕ)
 times_in p rs = map (λ r. (r, multiplicity p r)) rs
 
 pub length-times : (p : Polynomial) (rs : List ℤ) → length (times_in p rs) ≡ length rs
 length-times p rs = length-map rs (λ r. (r, multiplicity p r))
 
-abbrev pub counts : Polynomial → List ℤ → List ℕ
-counts p rs = map (multiplicity p) rs ++ replicate (16 - length rs) 0
+-- The first i of rs as they are counted, zeros behind.
+abbrev pub counted : Polynomial → List ℤ → ℕ → List Root
+counted p rs i = map root_of (times_in p (take i rs)) ++ replicate (16 - i) no_root
 
-abbrev made : ℕ → List ℤ → List ℕ → RootsWith
-made n values times = record { count = n; values = values ++ replicate (16 - n) (pos 0); times = times ++ replicate (16 - n) 0 }
+pub counted-next : (p : Polynomial) (rs : List ℤ) (i : ℕ) → i < length rs → i < 16
+    → set (counted p rs i) i (root_of (get_or rs i (pos 0), multiplicity p (get_or rs i (pos 0)))) ≡ counted p rs (i + 1)
+counted-next p rs i inside h =
+    ap₂ (λ n k. set (before ++ replicate n no_root) k x) room here ∙ set-append_seam before no_root rest x ∙ sym (append_snoc before x rest)
+    ∙ ap (λ l. l ++ rest) (sym longer)
+  where
+    f : ℤ → Root
+    f r = root_of (r, multiplicity p r)
 
--- The numbers in one array, and how often each occurs in the other.
-pub times-arrays : (p : Polynomial) (rs : List ℤ)
-    → listed_with (times_in p rs) ≡ record { count = length rs; values = (listed rs).values; times = counts p rs }
-times-arrays p rs =
-    ap (λ n. made n (map (λ x. x.0) (times_in p rs)) (map (λ x. x.1) (times_in p rs))) (length-times p rs)
-    ∙ ap₂ (made (length rs)) (map-map (λ x. x.0) (λ r. (r, multiplicity p r)) rs ∙ map-id rs)
-    (map-map (λ x. x.1) (λ r. (r, multiplicity p r)) rs)
+    x : Root
+    x = root_of (get_or rs i (pos 0), multiplicity p (get_or rs i (pos 0)))
 
-pub roots-alone : {w : RootsWith} (p : Polynomial) (rs : List ℤ) → w ≡ listed_with (times_in p rs) → roots_alone w ≡ listed rs
-roots-alone p rs e = ap roots_alone (e ∙ times-arrays p rs)
+    before : List Root
+    before = map root_of (times_in p (take i rs))
 
-pub found-alone : {w : RootsWith} (p : Polynomial) → w ≡ listed_with (roots_with_of p) → roots_alone w ≡ listed (roots p)
-unfolding roots_with_of
-found-alone p e = roots-alone p (roots p) e
+    rest : List Root
+    rest = replicate (16 - (i + 1)) no_root
+
+    room : 16 - i ≡ suc (16 - (i + 1))
+    room = omega arith
+
+    here : i ≡ length before
+    here = sym (length-map (times_in p (take i rs)) root_of ∙ length-times p (take i rs) ∙ length-take-le i rs (omega arith))
+
+    longer : map root_of (times_in p (take (i + 1) rs)) ≡ before ++ (x ∷ [])
+    longer = ap (λ n. map root_of (times_in p (take n rs))) (add-one i)
+        ∙ ap (λ l. map root_of (times_in p l)) (take-suc rs i (pos 0) inside)
+        ∙ ap (map root_of) (map-append (λ r. (r, multiplicity p r)) (take i rs) (get_or rs i (pos 0) ∷ []))
+        ∙ map-append root_of (times_in p (take i rs)) (times_in p (get_or rs i (pos 0) ∷ []))
 
 -- All of them are counted.
-pub filled-all : (p : Polynomial) (rs : List ℤ) → made (length rs) rs (map (multiplicity p) (take (length rs) rs)) ≡ listed_with (times_in p rs)
-filled-all p rs =
-    ap (λ l. made (length rs) rs (map (multiplicity p) l)) (take_all (length rs) rs (le_refl (length rs)))
-    ∙ sym (times-arrays p rs)
+pub counted-all : (p : Polynomial) (rs : List ℤ) → record { count = length rs; roots = counted p rs (length rs) } ≡ listed_with (times_in p rs)
+counted-all p rs =
+    ap (λ l. record { count = length rs; roots = map root_of (times_in p l) ++ replicate (16 - length rs) no_root })
+    (take_all (length rs) rs (le_refl (length rs)))
+    ∙ ap (λ n. record { count = n; roots = map root_of (times_in p rs) ++ replicate (16 - n) no_root }) (sym (length-times p rs))
+
+-- Numbers with how often each occurs, the numbers alone.
+pub times-held : {w : RootsWith} (p : Polynomial) (rs : List ℤ) → w ≡ listed_with (times_in p rs) → roots_held w ≡ rs
+times-held p rs e = roots_held-of (times_in p rs) e ∙ map-map (λ x. x.0) (λ r. (r, multiplicity p r)) rs ∙ map-id rs
+
+pub found-held : {w : RootsWith} (p : Polynomial) → w ≡ listed_with (roots_with_of p) → roots_held w ≡ roots p
+unfolding roots_with_of
+found-held p e = times-held p (roots p) e
+
+pub found-long : {w : RootsWith} (p : Polynomial) → w ≡ listed_with (roots_with_of p) → length (roots p) ≤ 16 → length w.roots ≡ 16
+unfolding roots_with_of
+found-long p e few =
+    let size = length-map (times_in p (roots p)) root_of ∙ length-times p (roots p) in
+    ap (λ w. length w.roots) e ∙ simp (length-append, length-replicate) (omega (arith, size, length-times p (roots p)))
+
+pub found-count : {w : RootsWith} (p : Polynomial) → w ≡ listed_with (roots_with_of p) → w.count ≡ length (roots p)
+unfolding roots_with_of
+found-count p e = ap (λ w. w.count) e ∙ length-times p (roots p)
 
 -- ---- the furthest root
 
-abbrev pub with_times_of : Polynomial → RootAnswer → RootWith
-with_times_of p a = record { found = a.found; root = a.root; times = cond a.found (multiplicity p a.root) 0 }
+abbrev pub with_times_of : Polynomial → Prelude.Option ℤ → Prelude.Option Root
+with_times_of p None = None
+with_times_of p (Some r) = Some (root_of (r, multiplicity p r))
 
--- Beside "no" stands 0 (SCOPE 2.83).
-abbrev pub answered_with : Polynomial → Option ℤ → RootWith
+abbrev pub answered_with : Polynomial → Option ℤ → Prelude.Option Root
 answered_with p o = with_times_of p (answered o)
 
-pub furthest-small : (side : Side) (p : Polynomial) → T (every small p) → nat_abs (answered (furthest side (roots p))).root ≤ bound
-furthest-small side p t = ⊎_elim none (some side) (eq-zero-or-pos (length (roots p)))
-  where
-    none : length (roots p) ≡ 0 → nat_abs (answered (furthest side (roots p))).root ≤ bound
-    none e = rw (ap (λ a. a.root) (answered-none side (roots p) e)) zero-le
-
-    some : (side : Side) → 0 < length (roots p) → nat_abs (answered (furthest side (roots p))).root ≤ bound
-    some leading h =
-        rw (ap (λ a. a.root) (answered-last (roots p) (roots-ascend p) h)) (small_at (roots p) (roots-within p t) (length (roots p) - 1))
-    some trailing h = rw (ap (λ a. a.root) (answered-first (roots p) (roots-ascend p) h)) (small_at (roots p) (roots-within p t) 0)
+pub furthest-small : (side : Side) (p : Polynomial) → T (every small p) → IfSome (answered (furthest side (roots p))) (λ r. nat_abs r ≤ bound)
+furthest-small leading p t =
+    subst (λ o. IfSome o (λ r. nat_abs r ≤ bound)) (answered-last (roots p) (roots-ascend p)) (slice_get-small (roots p) (length (roots p) - 1) (roots-within p t))
+furthest-small trailing p t =
+    subst (λ o. IfSome o (λ r. nat_abs r ≤ bound)) (answered-first (roots p) (roots-ascend p)) (slice_get-small (roots p) 0 (roots-within p t))

@@ -5,13 +5,18 @@
 --   Weighted p            coefficient i of p is at most C times 2 to the number of the coefficients above it
 --   Sized r p             p is within ±C where r is 2 or more in size, and weighted otherwise: what every quotient keeps
 --   Limited r n           n is the limit of the values at r: C, or 2^16 C where r is -1, 0 or 1
---   Divided r p q         q says whether p vanishes at r, and holds the quotient if it does
---   Dividing n r p q v i  q holds the coefficients of the quotient from i on, v is the next one and within ±n
+--   within n z            is z within ±n?
+--   divides n r p         does p vanish at r, and is every coefficient of the quotient within ±n?
+--   quotient_within n r p the quotient where that is so
+--   Divisible n r p       p has 16 coefficients below 2^44, and n times r is no large number: what a division asks of p
+--   Dividing n r p q v i  q holds the coefficients of the quotient from i on, all within ±n, and v is the next
 --
 -- Main statements
 --   sized-small, sized-quotient   a small polynomial is so, and the quotient of one that vanishes at r
 --   sized-at, sized_past          its coefficients are below 2^44; a value past the limit does not come back to 0
---   dividing-start, dividing-next   Horner's rule: its start, one coefficient more
+--   sized-divisible, sized-divides   .. so it can be divided, and is divided where it vanishes
+--   dividing-start, dividing-next, dividing-past, dividing-end   Horner's rule: its start, one coefficient more, one past ±n, its end
+--   divided-some, divided-none   what a division that was made says, and one that was not
 --   divisions-none, divisions-more   the count ends at a rest, and is one more where there is none
 --   multiplicity-most             nothing occurs more often than the polynomial has coefficients
 use Rattle.std.specs.Prelude.{ℕ, zero, suc, ◌+◌, ◌*◌, ◌-◌, ◌≤◌, ◌<◌, ◌≡◌, refl, ◌≢◌, ◌⊎◌, Bool, true, false, cond, [], ◌∷◌, T, ℤ, nat_abs, ◌+ℤ◌, ◌*ℤ◌, length, get_or, set, take, drop, replicate}
@@ -20,6 +25,13 @@ use Rattle.std.proofs.Math.Path.{sym, ap}
 use Rattle.std.proofs.Math.Logic.{by_cases}
 use Rattle.std.proofs.Math.Decide.{dec_le}
 use Rattle.std.proofs.Math.IntN.{pos}
+use Rattle.std.proofs.Math.Bool.{and-false}
+use Rattle.std.proofs.Math.Dec.{leb→le}
+use Rattle.std.proofs.lemmas.Option.{none-some, cond_some}
+use Rattle.std.specs.Prelude.{Option, None, Some, leb, ◌&&◌}
+use Rattle.algebra.specs.Vanishing.{is_zero_ℤ-sound}
+use Rattle.lists.specs.Taken.{drop-next}
+use Rattle.lists.specs.Tests.{every-false, true_of, false_of}
 use Rattle.std.proofs.lemmas.List.{set_split}
 use Rattle.algebra.specs.Integers.{nat_abs-+ℤ, nat_abs-*ℤ}
 use Rattle.algebra.specs.Polynomials.{Polynomial, eval, is_zero_ℤ, quotient}
@@ -29,7 +41,6 @@ use Rattle.lists.specs.Tests.{every, T-&&}
 use Rattle.rules.specs.Limits.{bound, small, coefficient_count}
 use Rattle.polynomials.specs.Content.{small_at}
 use Rattle.roots.specs.Bound.{horner-next, grows}
-use Rattle.multiplicities.specs.declared.Quotient.{Quotient}
 
 -- ---- the sizes
 
@@ -107,13 +118,20 @@ weighted-quotient [] r one w = w
 weighted-quotient (a ∷ p) r one w =
     (rw (quotient-length r p) (weighted-value p r one w.1), weighted-quotient p r one w.1)
 
+abbrev pub within : ℕ → ℤ → Bool
+within n z = leb (nat_abs z) n
+
 -- Coefficient i of the quotient is the value of the coefficients after i.
+quotient-within : (n : ℕ) (r : ℤ) (p : Polynomial) → ((i : ℕ) → nat_abs (eval (drop i p) r) ≤ n) → T (every (within n) (quotient r p))
+unfolding quotient every
+quotient-within n r [] h = tt
+quotient-within n r (a ∷ p) h =
+    (T-&& (within n (eval p r)) (every (within n) (quotient r p))).1
+    (le→leb (nat_abs (eval p r)) n (h 1), quotient-within n r p (λ i. h (suc i)))
+
 quotient-small : (r : ℤ) (p : Polynomial) → ((i : ℕ) → nat_abs (eval (drop i p) r) ≤ bound) → T (every small (quotient r p))
-unfolding quotient every small
-quotient-small r [] h = tt
-quotient-small r (a ∷ p) h =
-    (T-&& (small (eval p r)) (every small (quotient r p))).1
-    (le→leb (nat_abs (eval p r)) bound (h 1), quotient-small r p (λ i. h (suc i)))
+unfolding small
+quotient-small r p h = quotient-within bound r p h
 
 -- A polynomial within ±C that vanishes at r has no value past C on the way, where r is 2 or more in size.
 values-small : (p : Polynomial) (r : ℤ) → T (every small p) → 2 ≤ nat_abs r → eval p r ≡ pos 0 → (i : ℕ) → nat_abs (eval (drop i p) r) ≤ bound
@@ -148,23 +166,55 @@ sized_past r p n long s l i h root = ⊎_elim (λ a. far a.0 a.1) (λ a. near a.
         let most = weight-most (length (drop i p)) (omega (arith, length-drop i p)) in
         ⊎_elim (λ b. omega (arith, b.0)) (λ b. omega (arith, value, most, b.1)) l
 
--- A value within the limit times r.
-pub limit-product : (r : ℤ) (n : ℕ) → Limited r n → nat_abs r ≤ bound → (v : ℤ) → nat_abs v ≤ n → nat_abs (v *ℤ r) ≤ bound * bound
-limit-product r n l within v h =
-    ⊎_elim (λ a. omega (arith, nat_abs-*ℤ v r, mul-le-mul (far a.1) within))
-    (λ a. omega (arith, nat_abs-*ℤ v r, mul-le-mul (near a.1) a.0)) l
-  where
-    far : n ≡ bound → nat_abs v ≤ bound
-    far e = omega arith
+-- ---- what can be divided, and is
 
-    near : n ≡ largest → nat_abs v ≤ largest
-    near e = omega arith
+abbrev pub divides : ℕ → ℤ → Polynomial → Bool
+divides n r p = is_zero_ℤ (eval p r) && every (within n) (quotient r p)
+
+abbrev pub quotient_within : ℕ → ℤ → Polynomial → Option Polynomial
+quotient_within n r p = cond (divides n r p) (Some (quotient r p)) None
+
+pub record Divisible (n : ℕ) (r : ℤ) (p : Polynomial) : Type 0 where
+  pub long : length p ≡ coefficient_count
+  pub coefficients : (i : ℕ) → nat_abs (get_or p i (pos 0)) ≤ largest
+  pub product : n * nat_abs r ≤ bound * bound
+
+pub sized-divisible : (r : ℤ) (p : Polynomial) (n : ℕ) → length p ≡ coefficient_count → Sized r p → Limited r n → nat_abs r ≤ bound
+    → Divisible n r p
+sized-divisible r p n long s l inside =
+    record {
+      long = long;
+      coefficients = sized-at r p long s;
+      product =
+          ⊎_elim (λ a. subst (λ k. k * nat_abs r ≤ bound * bound) (sym a.1) (mul-le-mul (le_refl bound) inside))
+          (λ a. subst (λ k. k * nat_abs r ≤ bound * bound) (sym a.1) (omega (arith, a.0))) l;
+    }
+
+pub sized-divides : (r : ℤ) (p : Polynomial) (n : ℕ) → length p ≡ coefficient_count → Sized r p → Limited r n
+    → divides n r p ≡ is_zero_ℤ (eval p r)
+sized-divides r p n long s l = cases (is_zero_ℤ (eval p r)) (is_zero_ℤ-sound (eval p r))
+  where
+    inside : eval p r ≡ pos 0 → every (within n) (quotient r p) ≡ true
+    inside root =
+        true_of (every (within n) (quotient r p)) (quotient-within n r p
+        (λ i. by_cases (dec_le (nat_abs (eval (drop i p) r)) n) (λ h. h) (λ h. absurd (sized_past r p n long s l i (lt_of_not-le h) root))))
+
+    cases : (t : Bool) → (T t → eval p r ≡ pos 0) → (t && every (within n) (quotient r p)) ≡ t
+    cases true root = inside (root tt)
+    cases false root = refl
+
+module _ (n : ℕ) (r : ℤ) (p : Polynomial) where
+  pub divided-some : {q : Polynomial} → Some q ≡ quotient_within n r p → (divides n r p ≡ true) × (q ≡ quotient r p)
+  divided-some {q} e = let (t, same) = cond_some (divides n r p) (quotient r p) q (sym e) in (t, sym same)
+
+  pub divided-none : ◌≡◌ {A = Option Polynomial} None (quotient_within n r p) → divides n r p ≡ false
+  divided-none e = cases (divides n r p) e
+    where
+      cases : (t : Bool) → ◌≡◌ {A = Option Polynomial} None (cond t (Some (quotient r p)) None) → t ≡ false
+      cases true e = absurd (none-some (quotient r p) e)
+      cases false e = refl
 
 -- ---- coefficient by coefficient
-
-pub record Divided (r : ℤ) (p : Polynomial) (q : Quotient) : Type 0 where
-  pub decides : q.exact ≡ is_zero_ℤ (eval p r)
-  pub values : q.exact ≡ true → q.values ≡ quotient r p
 
 quotient-from : (r : ℤ) (p : Polynomial) (i : ℕ) → i < length p
     → drop i (quotient r p) ≡ eval (drop (suc i) p) r ∷ drop (suc i) (quotient r p)
@@ -174,11 +224,12 @@ quotient-from r (a ∷ p) zero h = refl
 quotient-from r (a ∷ p) (suc i) h = quotient-from r p i (le_of_suc-le-suc h)
 
 pub record Dividing (n : ℕ) (r : ℤ) (p q : Polynomial) (v : ℤ) (i : ℕ) : Type 0 where
-  pub within : i < coefficient_count
+  pub inside : i < coefficient_count
   pub long : length q ≡ coefficient_count
   pub size : nat_abs v ≤ n
   pub value : eval (drop (i + 1) p) r ≡ v
   pub behind : drop i q ≡ drop i (quotient r p)
+  pub passed : every (within n) (drop i (quotient r p)) ≡ true
 
 module _ (n : ℕ) (r : ℤ) (p : Polynomial) (long : length p ≡ coefficient_count) where
   -- From i on the quotient has one coefficient more than from i + 1 on.
@@ -186,8 +237,16 @@ module _ (n : ℕ) (r : ℤ) (p : Polynomial) (long : length p ≡ coefficient_c
   from i h = rw (add-one i) (quotient-from r p i (omega arith))
 
   pub dividing-start : Dividing n r p (replicate coefficient_count (pos 0)) (pos 0) 15
-  unfolding eval
-  dividing-start = record { within = omega arith; long = refl; size = zero-le; value = nothing; behind = sym last }
+  unfolding eval every
+  dividing-start =
+      record {
+        inside = omega arith;
+        long = refl;
+        size = zero-le;
+        value = nothing;
+        behind = sym last;
+        passed = ap (every (within n)) last ∙ ap (λ b. b && true) (true_of (leb 0 n) (le→leb 0 n zero-le));
+      }
     where
       nothing : eval (drop 16 p) r ≡ pos 0
       nothing = ap (λ q. eval q r) (drop_of_length-le p (le_of_eq long))
@@ -196,41 +255,69 @@ module _ (n : ℕ) (r : ℤ) (p : Polynomial) (long : length p ≡ coefficient_c
       last = from 15 (omega arith)
           ∙ ap₂ ◌∷◌ nothing (drop_of_length-le (quotient r p) (le_of_eq (quotient-length r p ∙ long)))
 
-  module _ {q : Polynomial} {v : ℤ} {i : ℕ} (d : Dividing n r p q v i) where
+  module _ {q : Polynomial} {v : ℤ} {i : ℕ} (d : Dividing n r p q v i) (more : 0 < i) where
     -- The next value.
     abbrev pub next : ℤ
     next = v *ℤ r +ℤ get_or p i (pos 0)
 
-    pub next-value : eval (drop i p) r ≡ next
-    next-value = horner-next p r v i (omega (arith, d.within)) d.value
+    before : i - 1 + 1 ≡ i
+    before = omega arith
 
-    pub dividing-next : 0 < i → nat_abs next ≤ n → Dividing n r p (set q (i - 1) next) next (i - 1)
-    dividing-next more h =
+    next-value : eval (drop i p) r ≡ next
+    next-value = horner-next p r v i (omega (arith, d.inside)) d.value
+
+    next-from : drop (i - 1) (quotient r p) ≡ next ∷ drop i (quotient r p)
+    next-from =
+        subst (λ k. drop (i - 1) (quotient r p) ≡ eval (drop k p) r ∷ drop k (quotient r p)) before
+        (from (i - 1) (omega (arith, d.inside)))
+        ∙ ap (λ a. a ∷ drop i (quotient r p)) next-value
+
+    pub dividing-next : nat_abs next ≤ n → Dividing n r p (set q (i - 1) next) next (i - 1)
+    unfolding every
+    dividing-next h =
         record {
-          within = omega (arith, d.within);
+          inside = omega (arith, d.inside);
           long = length-set q (i - 1) next ∙ d.long;
           size = h;
           value = rw before next-value;
           behind = stored ∙ ap (λ l. next ∷ l) d.behind ∙ sym next-from;
+          passed = ap (every (within n)) next-from ∙ ap₂ ◌&&◌ (true_of (within n next) (le→leb (nat_abs next) n h)) d.passed;
         }
       where
-        before : i - 1 + 1 ≡ i
-        before = omega arith
-
-        next-from : drop (i - 1) (quotient r p) ≡ next ∷ drop i (quotient r p)
-        next-from =
-            subst (λ k. drop (i - 1) (quotient r p) ≡ eval (drop k p) r ∷ drop k (quotient r p)) before
-            (from (i - 1) (omega (arith, d.within)))
-            ∙ ap (λ a. a ∷ drop i (quotient r p)) next-value
-
-        inside : i - 1 < length q
-        inside = omega (arith, d.within, d.long)
+        place : i - 1 < length q
+        place = omega (arith, d.inside, d.long)
 
         stored : drop (i - 1) (set q (i - 1) next) ≡ next ∷ drop i q
         stored =
-            ap (drop (i - 1)) (set_split q (i - 1) next inside)
+            ap (drop (i - 1)) (set_split q (i - 1) next place)
             ∙ drop_at (take (i - 1) q) (next ∷ drop (suc (i - 1)) q) (i - 1) (length-take-le (i - 1) q (omega arith))
             ∙ ap (λ k. next ∷ drop k q) (sym (add-one (i - 1)) ∙ before)
+
+    -- A coefficient past ±n.
+    pub dividing-past : n < nat_abs next → divides n r p ≡ false
+    dividing-past h = ap (λ b. is_zero_ℤ (eval p r) && b) failed ∙ and-false (is_zero_ℤ (eval p r))
+      where
+        place : i - 1 < length (quotient r p)
+        place = omega (arith, d.inside, quotient-length r p)
+
+        here : get_or (quotient r p) (i - 1) (pos 0) ≡ next
+        here = ap (λ l. get_or l 0 (pos 0)) (sym (drop-next (quotient r p) (i - 1) (pos 0) place) ∙ next-from)
+
+        failed : every (within n) (quotient r p) ≡ false
+        failed = every-false (within n) (quotient r p) (i - 1) (pos 0) place (ap (within n) here ∙ false_of (leb (nat_abs next) n) (λ t. omega (arith, leb→le (nat_abs next) n t)))
+
+  -- The rest is the value of p.
+  pub dividing-end : {q : Polynomial} {v : ℤ} → Dividing n r p q v 0
+      → (q ≡ quotient r p) × (is_zero_ℤ (v *ℤ r +ℤ get_or p 0 (pos 0)) ≡ divides n r p)
+  dividing-end {q} {v} d =
+      (d.behind, ap is_zero_ℤ (sym whole) ∙ right (is_zero_ℤ (eval p r)) ∙ ap (λ b. is_zero_ℤ (eval p r) && b) (sym d.passed))
+    where
+      whole : eval p r ≡ v *ℤ r +ℤ get_or p 0 (pos 0)
+      whole = horner-next p r v 0 (omega arith) d.value
+
+      right : (b : Bool) → b ≡ (b && true)
+      right true = refl
+      right false = refl
 
 -- ---- as often as there is no rest
 

@@ -54,6 +54,7 @@ fn digit_count(n: u64) -> usize
 {
     let mut count = 0;
     let mut rest = n;
+    // Kept as a loop by value: it divides until the number is within C.
     while 1000000000 <= rest {
         rest = rest / 10;
         count += 1;
@@ -68,6 +69,7 @@ fn put_digits_back(bytes: &mut [u8], at: usize, n: u64, end: usize)
 {
     let mut i = end;
     let mut rest = n;
+    // Kept as a loop by value: it divides until one digit is left.
     while 10 <= rest {
         i -= 1;
         put_byte(bytes, i, 48 + (rest % 10) as u8);
@@ -122,6 +124,7 @@ fn put_pairs_back(bytes: &mut [u8], end: usize, n: u64)
 {
     let mut i = end;
     let mut rest = n;
+    // Kept as a loop by value: it divides until one pair is left.
     while 100 <= rest {
         i -= 2;
         put_pair(bytes, i, rest % 100);
@@ -185,7 +188,7 @@ fn put_short(bytes: &mut [u8], start: usize, n: u64) -> usize
     end
 }
 
-// The same of three digits or four.
+// The same of three digits or four. Kept beside `put_short`: a constant for the width would choose between two callees, which is no plainer.
 fn put_middle(bytes: &mut [u8], start: usize, n: u64) -> usize
     requires { (100 ≤ n) × (n < 10000) × (0 < start) × (start + 4 ≤ length bytes.old) }
     ensures { (result ≡ start + length (digits_of n)) × ((at : ℕ) → Ends bytes.old at result n bytes.new) }
@@ -248,7 +251,7 @@ fn put_spaced(bytes: &mut [u8], at: usize, a: i64) -> usize
     end
 }
 
-// The same of a number of one or two digits.
+// The same of a number of one or two digits. Kept beside `put_spaced`: a constant for it would choose between two callees, which is no plainer.
 fn put_spaced_pair(bytes: &mut [u8], at: usize, a: i64) -> usize
     requires { (nat_abs a < 100) × (at + 4 ≤ length bytes.old) }
     ensures { Put bytes.old at (spaced (a ∷ [])) number_bytes bytes.new result }
@@ -280,7 +283,7 @@ pub fn put_next(bytes: &mut [u8], at: usize, a: i64) -> usize
     put_far(bytes, at, a)
 }
 
-// The same of a number of one or two digits.
+// The same of a number of one or two digits, with less room. Kept beside `put_next`: a constant for it would choose between two callees too.
 pub fn put_next_short(bytes: &mut [u8], at: usize, a: i64) -> usize
     requires { (nat_abs a < 100) × (at + number_room < 2 ^ 64) }
     ensures { Put bytes.old at (spaced (a ∷ [])) number_bytes bytes.new result }
@@ -318,10 +321,8 @@ pub fn put_numbers(bytes: &mut [u8], at: usize, numbers: &[i64]) -> usize
         bytes.new result }
 {
     let mut next = at;
-    let mut i = 0;
-    while i < numbers.len() {
-        next = put_next(bytes, next, numbers[i]);
-        i += 1;
+    for a in numbers {
+        next = put_next(bytes, next, *a);
     }
     next
 }
@@ -335,16 +336,15 @@ pub fn put_count(bytes: &mut [u8], at: usize, n: usize) -> usize
     put_byte(bytes, written, 10)
 }
 
+// Kept beside `put_numbers`: a closure for the number written would be lent the store each time, under a longer contract than both.
 pub fn put_columns(bytes: &mut [u8], at: usize, columns: &[usize]) -> usize
     requires { at + count_bytes * length columns.now < 2 ^ 64 }
     ensures { Put bytes.old at (spaced (map pos columns.now)) (count_bytes * length columns.now)
         bytes.new result }
 {
     let mut next = at;
-    let mut i = 0;
-    while i < columns.len() {
-        next = put_next_count(bytes, next, columns[i]);
-        i += 1;
+    for column in columns {
+        next = put_next_count(bytes, next, *column);
     }
     next
 }

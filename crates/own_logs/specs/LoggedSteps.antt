@@ -3,13 +3,15 @@
 -- Main definitions
 --   Noted all log log' n k          unless n is a refusal, the store log' begins with the k steps `all`; past the needed part it is as
 --                                   before
+--   progress_of r, steps_in r       where the run with the result r has come to, and the steps of its log
 --   SoFar, Noting                   the same in the midst of a run, with the steps that are still to come
 --
 -- Main statements
+--   noted-refused                   after a refusal no step counts
 --   noting-starts, noting-goes, noting-stops   the turns of the loop
 use Prim.Native.Nat.{ℕ, zero, suc, ◌+◌, ◌*◌, ◌-◌, ◌≤◌, ◌<◌}
-use Rattle.std.proofs.Common.{not-suc-le-zero, le_of_eq, arith, ◌∙◌, inl, inr, length-append, take-take, length-take-le}
-use Rattle.std.specs.Prelude.{◌≡◌, refl, true, false, cond, ℤ, drop}
+use Rattle.std.proofs.Common.{Ok, Err, zero-le, not-suc-le-zero, le_of_eq, arith, ◌∙◌, inl, inr, length-append, take-take, length-take-le}
+use Rattle.std.specs.Prelude.{◌≡◌, ◌≢◌, refl, true, false, cond, ℤ, drop, Result}
 use Rattle.std.proofs.Math.Path.{sym, ap, ap₂}
 use mathlib.Core.List.{List, [], ◌++◌, map, flatten, append-nil, append_assoc, map-append}
 use borrow.Author.Tests.{le-leb, lt-leb}
@@ -24,8 +26,10 @@ use Rattle.rules.specs.Elimination.{State, going, leading, step, finished, start
 use Rattle.sides.specs.Lent.{Kept}
 use Rattle.sides.specs.StoreStates.{kept_same, kept_then}
 use Rattle.reduction.specs.declared.step.Progress.{Progress}
-use Rattle.reduction.specs.declared.step.Outcome as Answer
-use Rattle.reduction.specs.Progress as Progress
+use Rattle.reduction.specs.Answer as Answer
+use Rattle.refusals.specs.declared.Refusal.{Refusal}
+use Rattle.own_logs.specs.declared.Written.{Written}
+use Rattle.reduction.specs.Progress as Made
 use Rattle.reduction.specs.Progress.{Ready, Reached, state_of, outcome_of, start_progress}
 use Rattle.reduction.specs.RunLaws.{Stopped, enough-rows, enough-few}
 use Rattle.reduction.specs.StepCases.{finished-at}
@@ -36,7 +40,7 @@ use Rattle.own_logs.specs.OwnLines.{LinesOf, StepLines}
 
 -- Two for each step of the longest run (SCOPE 13.54).
 abbrev pub most_lines : ℕ
-most_lines = 2 * Progress.most_steps
+most_lines = 2 * Made.most_steps
 
 abbrev pub line_numbers : List Change → List ℤ
 line_numbers cs = flatten (map change_numbers cs)
@@ -46,6 +50,18 @@ pub record Noted (all : List Change) (log log' : List ℤ) (n k : ℕ) : Type 0 
   pub few : k ≤ most_lines
   pub count-is : n ≡ 0 → k ≡ length all
   pub numbers-are : n ≡ 0 → take (k * step_length) log' ≡ line_numbers all
+
+pub noted-refused : {all : List Change} {log log' : List ℤ} {n k : ℕ} → n ≢ 0 → Noted all log log' n k → Noted all log log' n 0
+noted-refused h r = record { kept = r.kept; few = zero-le; count-is = λ e. absurd (h e); numbers-are = λ e. absurd (h e) }
+
+-- The progress and the steps of the log in the result of a run: no step counts beside a refusal.
+abbrev pub progress_of : Result Written Refusal → Result Progress Refusal
+progress_of (Ok w) = Ok w.progress
+progress_of (Err r) = Err r
+
+abbrev pub steps_in : Result Written Refusal → ℕ
+steps_in (Ok w) = w.steps
+steps_in (Err r) = 0
 
 -- ---- in the midst of a run
 

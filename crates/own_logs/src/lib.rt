@@ -8,27 +8,30 @@ ghost use Rattle.rules.specs.Limits.{most_equations, column_count};
 ghost use Rattle.rules.specs.Elimination as Elimination;
 ghost use Rattle.rules.specs.Stores.{rows_of, relations_of, row_need};
 ghost use Rattle.sides.specs.Lent.{Within, Listing};
-ghost use Rattle.reduction.specs.Progress.{most_steps, Reached};
+ghost use Rattle.refusals.specs.Refusals.{refusal_in};
+ghost use Rattle.reduction.specs.Answer.{run_answer};
+ghost use Rattle.reduction.specs.Progress.{most_steps, Came, final_answer};
 ghost use Rattle.reduction.specs.Ran.{Ran, run_of};
 ghost use Rattle.log_steps.specs.Logs.{step_length};
 ghost use Rattle.log_steps.specs.Logs.{own_need};
 ghost use Rattle.own_logs.specs.Own.{own_changes};
 ghost use Rattle.own_logs.specs.OwnLines.{Two};
-ghost use Rattle.own_logs.specs.LoggedSteps.{most_lines, Noted};
+ghost use Rattle.own_logs.specs.LoggedSteps.{most_lines, Noted, progress_of, steps_in};
 ghost use Rattle.own_logs.specs.LogStores.{LogLeft, closed};
 
 use lines::Lines;
 use log_steps::lengths::{LOG, STEP};
-use reduction::step::{Outcome, SPAN};
+use reduction::step::{Progress, SPAN};
+use refusals::Refusal;
 use sides::Side;
-use stores::lengths::{COLUMNS, RELATION, ROW};
+use stores::lengths::COLUMNS;
 
 mod lines;
 
-// What a run comes to, and the steps of its log.
-#[derive(Drop)]
+// Where a run that accepts has come to, and the steps of its log.
+#[derive(Clone, Copy)]
 pub struct Written {
-    pub outcome: Outcome,
+    pub progress: Progress,
     pub steps: usize,
 }
 
@@ -51,69 +54,60 @@ fn steps(
     equations: usize,
     count: usize,
     log: &mut [i64],
-) -> Written
+) -> Result<Written, Refusal>
     requires { (equations ≤ most_equations) × Within (row_need equations) rows.old × Listing count relations.old
         × (own_need ≤ length log.old) }
-    ensures reached { Reached equations rows.old relations.old rows.new relations.new most_steps
-        result.outcome (run_of Elimination.leading equations count rows.old relations.old) }
+    ensures came { Came run_answer equations rows.old relations.old rows.new relations.new most_steps
+        (progress_of result) (run_of Elimination.leading equations count rows.old relations.old) }
     ensures noted { Noted
         (own_changes (rows_of equations rows.old) (relations_of count relations.old))
-        log.old log.new result.outcome.refusal result.steps }
+        log.old log.new (refusal_in result) (steps_in result) }
 {
-    let mut p = reduction::run::start(equations, count);
-    let mut refusal: u8 = 0;
-    let mut left = reduction::run::enough(equations);
+    let mut p = Progress::start(equations, count);
     let mut k = 0;
-    while 0 < left && refusal == 0 && p.settled < p.rows {
+    let most = reduction::run::enough(equations);
+    for _ in 0..most {
+        if p.is_done() {
+            return Ok(Written {
+                progress: p,
+                steps: k,
+            });
+        }
         let lines = lines::step_lines(rows, p);
         put_lines(log, k, lines);
         k += lines.count;
-        let o = reduction::step::step(rows, relations, Side::Leading, SPAN, p);
-        refusal = o.refusal;
-        p = o.progress;
-        left -= 1;
+        p = reduction::step::step(rows, relations, Side::Leading, SPAN, p)?;
     }
-    let outcome = Outcome {
-        refusal,
-        done: p.rows <= p.settled,
+    Ok(Written {
         progress: p,
-    };
-    Written { outcome, steps: k }
+        steps: k,
+    })
 }
 
-// A refused run leaves zeros, in the log too (SCOPE 6.33, 13.52). The relation places past those that are listed hold 0 already.
+// A refused run leaves zeros, in the log too (SCOPE 6.33, 13.52).
 pub fn run(
     rows: &mut [i64],
     relations: &mut [i64],
     equations: usize,
     count: usize,
     log: &mut [i64],
-) -> Written
+) -> Result<Written, Refusal>
     requires { (equations ≤ most_equations) × Within (row_need equations) rows.old × Listing count relations.old
         × (own_need ≤ length log.old) }
-    ensures ran { Ran equations rows.old relations.old rows.new relations.new result.outcome
+    ensures ran { Ran equations rows.old relations.old rows.new relations.new (final_answer equations (progress_of result))
         (run_of Elimination.leading equations count rows.old relations.old) }
     ensures log_left { LogLeft
         (own_changes (rows_of equations rows.old) (relations_of count relations.old))
-        log.old log.new result.outcome.refusal result.steps }
+        log.old log.new (refusal_in result) (steps_in result) }
 {
-    let w = steps(rows, relations, equations, count, log);
-    let o = w.outcome;
-    let refusal = o.refusal;
-    if refusal == 0 {
-        return w;
+    match steps(rows, relations, equations, count, log) {
+        Ok(written) => Ok(written),
+        Err(refusal) => {
+            reduction::run::clear(rows, relations, equations);
+            stores::rows::clear(log, 0, LOG);
+            Err(refusal)
+        }
     }
-    let p = o.progress;
-    let listed = p.count;
-    stores::rows::clear(rows, 0, equations * ROW);
-    stores::rows::clear(relations, 0, listed * RELATION);
-    stores::rows::clear(log, 0, LOG);
-    let outcome = Outcome {
-        refusal,
-        done: false,
-        progress: reduction::run::start(equations, 0),
-    };
-    Written { outcome, steps: 0 }
 }
 
 // The columns of the rows that are left, as a run reports them (SCOPE 13.52).
@@ -121,10 +115,8 @@ fn put_order(log: &mut [i64], at: usize, order: [usize; COLUMNS])
     requires { (at + column_count ≤ length log.old) × All (λ c. c ≤ column_count) order × (length order ≡ column_count) }
     ensures { log.new ≡ paste log.old at (map pos order) column_count }
 {
-    let mut j = 0;
-    while j < COLUMNS {
-        log[at + j] = order[j] as i64;
-        j += 1;
+    for (j, c) in order.iter().enumerate() {
+        log[at + j] = *c as i64;
     }
 }
 

@@ -9,24 +9,18 @@ ghost use Rattle.rules.specs.Rows as Rows;
 ghost use Rattle.rules.specs.Stores.{row_of};
 ghost use Rattle.reduction.specs.StoreExchange.{numbers_at, narrowed};
 ghost use Rattle.reduction.specs.StepLaws.{met_entries};
+ghost use Rattle.log_steps.specs.Kinds.{number_of};
+ghost use Rattle.own_logs.specs.Contents.{content_in};
 ghost use Rattle.own_logs.specs.OwnLines.{one_line, CombinationLine, Readable, Eliminated, StepLines};
 
+use combinations::Combination;
+use log_steps::kinds::Kind;
 use log_steps::lengths::{G, H, STEP};
 use polynomials::lengths::COEFFICIENTS;
 use reduction::step::{Progress, SPAN};
 use stores::lengths::{COLUMNS, ROW};
 
-// The kinds that our own run has (SCOPE 13.12).
-const EXCHANGE: usize = 1;
-
-const COMBINATION: usize = 2;
-
-const SHIFT: usize = 3;
-
-const DROP: usize = 5;
-
 // No step of a log, one or two. Past so many the numbers say nothing.
-#[derive(Drop)]
 #[derive(Clone, Copy)]
 pub(crate) struct Lines {
     pub count: usize,
@@ -35,12 +29,12 @@ pub(crate) struct Lines {
 }
 
 // A step without multipliers; rows are counted from 1, and a field that is not used is 0 (SCOPE 13.12).
-fn plain(kind: usize, i: usize, j: usize) -> [i64; STEP]
-    requires { (kind < 2 ^ 63) × (i < 2 ^ 63) × (j < 2 ^ 63) }
-    ensures { result ≡ pos kind ∷ pos i ∷ pos j ∷ zeros 33 }
+fn plain(kind: Kind, i: usize, j: usize) -> [i64; STEP]
+    requires { (i < 2 ^ 63) × (j < 2 ^ 63) }
+    ensures { result ≡ pos (number_of kind) ∷ pos i ∷ pos j ∷ zeros 33 }
 {
     let mut numbers = [0i64; STEP];
-    numbers[0] = kind as i64;
+    numbers[0] = kind.number();
     numbers[1] = i as i64;
     numbers[2] = j as i64;
     numbers
@@ -52,7 +46,7 @@ fn combining(i: usize, j: usize, divisor: u64, g: &[i64], h: &[i64]) -> [i64; ST
     requires g_len { (length g.now ≡ coefficient_count) × (length h.now ≡ coefficient_count) }
     ensures { result ≡ pos 2 ∷ pos i ∷ pos j ∷ pos divisor ∷ (g.now ++ h.now) }
 {
-    let mut numbers = plain(COMBINATION, i, j);
+    let mut numbers = plain(Kind::Combination, i, j);
     numbers[3] = divisor as i64;
     stores::rows::save(&mut numbers, G, g);
     stores::rows::save(&mut numbers, H, h);
@@ -70,6 +64,16 @@ fn one(first: [i64; STEP]) -> Lines
     }
 }
 
+// The content of a combination, 0 where a degree is past 15: such a step is refused, and its integer says nothing.
+fn content_of(made: Option<Combination>) -> u64
+    ensures { result ≡ content_in made }
+{
+    match made {
+        Some(whole) => whole.content,
+        None => 0,
+    }
+}
+
 // The combination of rows i and j with the entries in column c: the integer is its content, 1 for a zero result (SCOPE 13.51).
 fn combination(i: usize, j: usize, c: usize, target: &[i64], pivot: &[i64]) -> [i64; STEP]
     requires i_lt_most_equations { (i < most_equations) × (j < most_equations) × (c < column_count) }
@@ -81,8 +85,7 @@ fn combination(i: usize, j: usize, c: usize, target: &[i64], pivot: &[i64]) -> [
     let mut g = [0; COEFFICIENTS];
     let mut h = [0; COEFFICIENTS];
     reduction::step::put_multipliers_at(&mut g, &mut h, target, pivot, c);
-    let made = combinations::undivided_stored(&g[..], &h[..], target, pivot);
-    let content = made.content;
+    let content = content_of(combinations::undivided_stored(&g[..], &h[..], target, pivot));
     let divisor = if content == 0 { 1 } else { content };
     combining(i + 1, j + 1, divisor, &g[..], &h[..])
 }
@@ -100,7 +103,7 @@ fn elimination(rows: &[i64], j: usize, width: usize, p: Progress) -> Lines
     let row = stores::rows::row_at(rows, i * ROW);
     let other = stores::rows::row_at(rows, j * ROW);
     if width < reduction::looking::width_at(rows, j, SPAN) {
-        let first = plain(EXCHANGE, i + 1, j + 1);
+        let first = plain(Kind::Exchange, i + 1, j + 1);
         let second = combination(i, j, c, other, row);
         return Lines {
             count: 2,
@@ -119,7 +122,7 @@ pub(crate) fn step_lines(rows: &[i64], p: Progress) -> Lines
     let i = p.settled;
     let width = reduction::looking::width_at(rows, i, SPAN);
     if width == 0 {
-        return one(plain(DROP, i + 1, 0));
+        return one(plain(Kind::Drop, i + 1, 0));
     }
     let order = p.order;
     let j = reduction::looking::met_at(rows, i, order, i);
@@ -133,5 +136,5 @@ pub(crate) fn step_lines(rows: &[i64], p: Progress) -> Lines
             second: [0; STEP],
         };
     }
-    one(plain(SHIFT, i + 1, 0))
+    one(plain(Kind::Raise, i + 1, 0))
 }

@@ -30,11 +30,7 @@ pub const ANSWER: usize = ACCEPTED + SHEET;
 pub fn clear(output: &mut [u8])
     ensures { output.new ≡ replicate (length output.old) 0 }
 {
-    let mut i = 0;
-    while i < output.len() {
-        output[i] = 0;
-        i += 1;
-    }
+    output.fill(0);
 }
 
 // The source at the front of the target, which has room for it: the number of bytes copied.

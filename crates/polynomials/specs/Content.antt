@@ -7,18 +7,24 @@
 -- Main statements
 --   read_back, zero_bits, nonzero-bits   an i64 and its bits
 --   skip-zero              one coefficient more from the front that is zero and changes nothing
+--   is_zero-tested         a test of every coefficient for zero is that of the polynomial
 --   is_zero-false, lowest-first   a nonzero coefficient makes p nonzero; at the front it is the lowest
 --   or-zero, join-next     joined bits are 0 exactly if both are; one coefficient more is joined
 --   degree-below           there is a coefficient at the degree
 --   zeros-part, zeros_within   several zero coefficients less from the top; no power past the others
---   within-down, degree-bottom   one zero coefficient less from the top; none left past power 0: the degree is 0
+--   degree-bottom, degree-found   none left past power 0: the degree is 0; what a search from the top finds is the degree
+--   content-front          zeros at the top leave the content
 --   content-next, one-gcd  a coefficient joins the greatest common divisor of those passed; 1 stays 1
 --   quotient-stored        the quotient by a positive i64, stored, is a coefficient of `divide_by`
 --   small_at, below-of-small, below-divide_by   sizes of coefficients and of quotients
 --   content-bounds         the content of two polynomials within ±C that are not both zero is positive and at most C
 --   signs-turned, signs-kept   the two cases of rule 2's signs
-use Rattle.std.specs.Prelude.{◌≡◌, refl, ◌≢◌, Bool, true, false, not, cond, ◌&&◌, [], ◌∷◌, ◌++◌, ℕ, zero, suc, ◌+◌, ◌-◌, ◌^◌, ◌≤◌, ◌<◌, T, eqb, ℤ, pos, negsuc, nat_abs, length, get_or, take, drop}
-use Rattle.std.proofs.Common.{sym, ◌∙◌, ap, ap₂, subst, ⊎_elim, pos_of_ne-zero, le_trans, eq-or-lt_of_le, not-suc-le-zero, arith, ltb→lt, leb→le, take-append-drop, SFits, of_z, to_z, to_z-of_z, ne_eqb}
+use Rattle.std.specs.Prelude.{◌≡◌, refl, ◌≢◌, ◌↔◌, IsTrue, EachIndex, MatchOption, Option, Bool, true, false, not, cond, ◌&&◌, [], ◌∷◌, ◌++◌, ℕ, zero, suc, ◌+◌, ◌-◌, ◌^◌, ◌≤◌, ◌<◌, T, eqb, ℤ, pos, negsuc, nat_abs, length, get_or, take, drop}
+use Rattle.std.proofs.Common.{sym, ◌∙◌, ap, ap₂, subst, ⊎_elim, pos_of_ne-zero, le_trans, not-suc-le-zero, arith, ltb→lt, leb→le, take-append-drop, SFits, of_z, to_z, to_z-of_z, ne_eqb}
+use Rattle.std.specs.Option.{unwrap_or}
+use Rattle.std.proofs.Common.{None, Some}
+use Rattle.std.proofs.lemmas.Bool.{cases_lt}
+use Rattle.std.proofs.lemmas.List.{get_or-take, length-take-le}
 use Rattle.std.proofs.Math.Bool.{and_assoc}
 use Rattle.std.proofs.Math.Nat.{le_of_dvd, dvd-one}
 use Rattle.std.specs.Int.Bits.{bit_or, or_add_and}
@@ -29,9 +35,9 @@ use Rattle.std.specs.Int.{w64}
 use Rattle.std.proofs.Math.Facts.{sfits_lit}
 use borrow.Author.Rules.{sfits_of}
 use Rattle.algebra.specs.Integers.{nat_abs-zero}
-use Rattle.algebra.specs.Polynomials.{Polynomial, coeff, negate, is_zero_ℤ, is_zero_of, lead, lowest, degree, is_zero_ℤ-not-iff, is_zero-coeff, is_zero-append}
-use Rattle.algebra.specs.Coefficients.{Within, coeff-drop, coeff-degree, lead-nonzero, degree-le, degree-lt-length}
-use Rattle.algebra.specs.Gcd.{gcd, content, divide_by, gcd-comm, gcd-assoc, gcd-divides-left}
+use Rattle.algebra.specs.Polynomials.{Polynomial, coeff, negate, is_zero_ℤ, is_zero_of, lead, lowest, degree, is_zero_ℤ-not-iff, is_zero-coeff, coeff-is_zero, is_zero-append}
+use Rattle.algebra.specs.Coefficients.{Within, coeff-drop, coeff-degree, coeff-past-length, lead-nonzero, degree-le, degree-unique, degree-lt-length}
+use Rattle.algebra.specs.Gcd.{gcd, content, content-append, content-zero, gcd-zero, divide_by, gcd-comm, gcd-assoc, gcd-divides-left}
 use Rattle.algebra.specs.Gcd.{content-divides, content-pos, divide_by-get_or, divide_by-le}
 use Rattle.rules.specs.Limits.{bound, small}
 use Rattle.lists.specs.Tests.{every, every-get_or, every-join, T-&&}
@@ -60,6 +66,20 @@ nonzero-bits h e = h (ap (of_z w64) e)
 pub skip-zero : {A : Type 0} (f : Polynomial → A) → ((q : Polynomial) → f (pos 0 ∷ q) ≡ f q)
     → (p : Polynomial) (i : ℕ) → i < length p → get_or p i (pos 0) ≡ pos 0 → f (drop i p) ≡ f (drop (i + 1) p)
 skip-zero f h p i l e = ap f (drop-next p i (pos 0) l ∙ ap (λ a. a ∷ drop (i + 1) p) e) ∙ h (drop (i + 1) p)
+
+-- A test of every coefficient for zero is that of the polynomial.
+pub is_zero-tested : (b : Bool) (p : Polynomial) → IsTrue b ↔ EachIndex p (λ k. get_or p k (pos 0) ≡ pos 0) → b ≡ is_zero_of p
+unfolding coeff
+is_zero-tested b p h = tested b (is_zero_of p) (λ e. coeff-is_zero p (zero-at (h.0 e))) (λ z. h.1 (λ k l. is_zero-coeff p z k))
+  where
+    zero-at : EachIndex p (λ k. get_or p k (pos 0) ≡ pos 0) → (k : ℕ) → coeff p k ≡ pos 0
+    zero-at each k = ⊎_elim (each k) (coeff-past-length p k) (cases_lt k (length p))
+
+    tested : (b t : Bool) → (IsTrue b → T t) → (T t → IsTrue b) → b ≡ t
+    tested true true f g = refl
+    tested true false f g = absurd (f refl)
+    tested false true f g = g tt
+    tested false false f g = refl
 
 pub is_zero-false : (p : Polynomial) (k : ℕ) → get_or p k (pos 0) ≢ pos 0 → is_zero_of p ≡ false
 unfolding coeff
@@ -102,16 +122,16 @@ content-next d p i h =
     let rest = content (drop (i + 1) p) in
     ap (λ q. gcd d (content q)) (drop-next p i (pos 0) h) ∙ sym (gcd-assoc d a rest) ∙ ap (λ e. gcd e rest) (gcd-comm d a)
 
+-- Where the coefficients from n on are zero, those before have the content.
+pub content-front : (p : Polynomial) (n : ℕ) → T (is_zero_of (drop n p)) → content p ≡ content (take n p)
+content-front p n z =
+    ap content (sym (take-append-drop n p)) ∙ content-append (take n p) (drop n p)
+    ∙ ap (gcd (content (take n p))) ((content-zero (drop n p)).1 z) ∙ gcd-zero (content (take n p))
+
 pub one-gcd : (n : ℕ) → gcd 1 n ≡ 1
 one-gcd n = dvd-one.0 (gcd-divides-left 1 n)
 
 -- ---- from the top
-
-pub within-down : (p : Polynomial) (n : ℕ) → 1 < n → Within p (n - 1) → coeff p (n - 1) ≡ pos 0 → Within p (n - 1 - 1)
-within-down p n h w e k l = ⊎_elim at_top (w k) (eq-or-lt_of_le (omega arith))
-  where
-    at_top : n - 1 ≡ k → coeff p k ≡ pos 0
-    at_top t = rw t at e
 
 -- Zeros taken off the top, from `from` on.
 pub zeros-part : (p : Polynomial) (from n : ℕ) → from ≤ n → T (is_zero_of (take (n - from) (drop from p))) → T (is_zero_of (drop n p))
@@ -135,6 +155,29 @@ degree-below (a ∷ p) h = degree-lt-length a p
 
 pub degree-bottom : (p : Polynomial) (n : ℕ) → n ≤ 1 → Within p (n - 1) → degree p ≡ 0
 degree-bottom p n h w = omega (arith, degree-le p 0 (λ k l. w k (omega arith)))
+
+-- What a search from the top finds among the first n coefficients, where those past them are zero, is the degree, or 0 where it finds none.
+abbrev pub TopOf : Polynomial → Option ℕ → Type 0
+TopOf p o =
+    MatchOption o (EachIndex p (λ k. get_or p k (pos 0) ≡ pos 0))
+    (λ i. (i < length p) × (get_or p i (pos 0) ≢ pos 0) × ((k : ℕ) → i < k → k < length p → get_or p k (pos 0) ≡ pos 0))
+
+pub degree-found : (p : Polynomial) (n : ℕ) (o : Option ℕ) → n ≤ length p → T (is_zero_of (drop n p)) → TopOf (take n p) o → unwrap_or o 0 ≡ degree p
+unfolding coeff
+degree-found p n o h z = cases o
+  where
+    long : length (take n p) ≡ n
+    long = length-take-le n p h
+
+    within : (i : ℕ) → ((k : ℕ) → i < k → k < length (take n p) → get_or (take n p) k (pos 0) ≡ pos 0) → Within p i
+    within i each k l =
+        ⊎_elim (λ b. sym (get_or-take n p k (pos 0) b) ∙ each k l (omega (arith, long))) (λ b. zeros_within p n z k (omega arith))
+        (cases_lt k n)
+
+    cases : (o : Option ℕ) → TopOf (take n p) o → unwrap_or o 0 ≡ degree p
+    cases None each = sym (degree-bottom p 1 (omega arith) (within 0 (λ k l. each k)))
+    cases (Some i) at =
+        sym (degree-unique p i (λ e. at.1 (get_or-take n p i (pos 0) (omega (arith, long, at.0)) ∙ e)) (within i at.2))
 
 -- ---- division, and sizes
 

@@ -14,14 +14,7 @@ use crate::lengths::COEFFICIENTS;
 pub fn is_zero(p: &[i64]) -> bool
     ensures { result ≡ Polynomials.is_zero_of p.now }
 {
-    let mut i = 0;
-    while i < p.len() {
-        if p[i] != 0 {
-            return false;
-        }
-        i += 1;
-    }
-    true
+    p.iter().all(|a| *a == 0)
 }
 
 // The same of a long list, most often of zeros only: the bits of all its numbers joined, with no stop, which the machine does for several
@@ -30,10 +23,8 @@ pub fn all_zero(p: &[i64]) -> bool
     ensures { result ≡ Polynomials.is_zero_of p.now }
 {
     let mut joined = 0;
-    let mut i = 0;
-    while i < p.len() {
-        joined |= p[i];
-        i += 1;
+    for a in p {
+        joined |= *a;
     }
     joined == 0
 }
@@ -52,6 +43,7 @@ pub fn zero_throughout(p: &[i64]) -> bool
 
 // How many coefficients are left when those at the top are taken off four at a time as long as all four are zero: most polynomials are far
 // shorter than their places.
+// A while: the places go down by four as long as all four are zero, which no range says more plainly.
 fn without_fours(p: &[i64]) -> usize
     ensures { (result ≤ length p.now) × T (Polynomials.is_zero_of (drop result p.now)) }
 {
@@ -70,14 +62,8 @@ fn without_fours(p: &[i64]) -> usize
 pub fn degree(p: &[i64]) -> usize
     ensures { result ≡ Polynomials.degree p.now }
 {
-    let mut n = without_fours(p);
-    while 1 < n {
-        if p[n - 1] != 0 {
-            return n - 1;
-        }
-        n -= 1;
-    }
-    0
+    let n = without_fours(p);
+    p[..n].iter().rposition(|a| *a != 0).unwrap_or(0)
 }
 
 // The highest nonzero coefficient stands at the degree.
@@ -92,12 +78,10 @@ pub fn lead(p: &[i64]) -> i64
 pub fn lowest(p: &[i64]) -> i64
     ensures { result ≡ Polynomials.lowest p.now }
 {
-    let mut i = 0;
-    while i < p.len() {
-        if p[i] != 0 {
-            return p[i];
+    for a in p {
+        if *a != 0 {
+            return *a;
         }
-        i += 1;
     }
     0
 }
@@ -119,13 +103,11 @@ pub fn content_with(start: u64, p: &[i64]) -> u64
 {
     let n = without_fours(p);
     let mut d = start;
-    let mut i = 0;
-    while i < n {
-        d = with_divisor(d, p[i]);
+    for a in &p[..n] {
+        d = with_divisor(d, *a);
         if d == 1 {
             return 1;
         }
-        i += 1;
     }
     d
 }
@@ -153,22 +135,8 @@ pub fn divide_in_place(p: &mut [i64], d: i64)
     requires { Below (2 ^ 63) p.old × T (lt_z (pos 0) d) }
     ensures { p.new ≡ Gcd.divide_by (nat_abs d) p.old }
 {
-    let mut i = 0;
-    while i < p.len() {
-        p[i] = integers::quotient(p[i], d);
-        i += 1;
-    }
-}
-
-// The sixteen coefficients put into a place.
-fn put_copied(place: &mut [i64], p: &[i64])
-    requires { (length place.old ≡ coefficient_count) × (length p.now ≡ coefficient_count) }
-    ensures { place.new ≡ p.now }
-{
-    let mut i = 0;
-    while i < COEFFICIENTS {
-        place[i] = p[i];
-        i += 1;
+    for a in p.iter_mut() {
+        *a = integers::quotient(*a, d);
     }
 }
 
@@ -178,7 +146,7 @@ pub fn copied(p: &[i64]) -> [i64; COEFFICIENTS]
     ensures { result ≡ p.now }
 {
     let mut q = [0; COEFFICIENTS];
-    put_copied(&mut q, p);
+    q.copy_from_slice(p);
     q
 }
 
@@ -187,7 +155,7 @@ fn put_divided(place: &mut [i64], p: &[i64], d: i64)
     requires { (length place.old ≡ coefficient_count) × (length p.now ≡ coefficient_count) × Below (2 ^ 63) p.now × T (lt_z (pos 0) d) }
     ensures { place.new ≡ Gcd.divide_by (nat_abs d) p.now }
 {
-    put_copied(place, p);
+    place.copy_from_slice(p);
     if d != 1 {
         divide_in_place(place, d);
     }
@@ -198,10 +166,8 @@ fn negate_in_place(p: &mut [i64])
     requires { (length p.old ≡ coefficient_count) × Below (2 ^ 63) p.old }
     ensures { p.new ≡ Polynomials.negate p.old }
 {
-    let mut i = 0;
-    while i < COEFFICIENTS {
-        p[i] = integers::negated(p[i]);
-        i += 1;
+    for a in p.iter_mut() {
+        *a = integers::negated(*a);
     }
 }
 

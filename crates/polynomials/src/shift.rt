@@ -59,10 +59,8 @@ pub fn shifted_coefficient(table: &[[i64; COEFFICIENTS]; COEFFICIENTS], p: &[i64
     ensures size { nat_abs result ≤ 2 ^ coefficient_count * bound }
 {
     let mut sum: i64 = 0;
-    let mut j = k;
-    while j < p.len() {
+    for j in k..p.len() {
         sum += binomial(table, j, k) * p[j];
-        j += 1;
     }
     sum
 }

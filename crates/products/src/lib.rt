@@ -15,11 +15,10 @@ pub fn product_coefficient(g: &[i64], p: &[i64], k: usize) -> i64
     ensures result_bound { nat_abs result ≤ coefficient_count * (bound * bound) }
 {
     let end = if k < g.len() { k + 1 } else { g.len() };
-    let mut i = if k < p.len() { 0 } else { k + 1 - p.len() };
+    let first = if k < p.len() { 0 } else { k + 1 - p.len() };
     let mut sum = 0;
-    while i < end {
+    for i in first..end {
         sum += g[i] * p[k - i];
-        i += 1;
     }
     sum
 }
@@ -48,10 +47,8 @@ fn add_scaled(place: &mut [i64], a: i64, p: &[i64])
     requires { (length place.old ≡ length p.now) × Below (32 * (bound * bound)) place.old × T (small a) × T (every small p.now) }
     ensures { place.new ≡ add place.old (scale a p.now) }
 {
-    let mut k = 0;
-    while k < p.len() {
-        place[k] = plus_multiple(place[k], a, p[k]);
-        k += 1;
+    for (k, b) in p.iter().enumerate() {
+        place[k] = plus_multiple(place[k], a, *b);
     }
 }
 
@@ -89,10 +86,7 @@ pub fn add_product(place: &mut [i64], g: &[i64], p: &[i64])
     requires p_nonzero { (0 < length p.now) × (length g.now + length p.now ≤ length place.old + 1) × Below (16 * (bound * bound) + 1) place.old }
     ensures { place.new ≡ add place.old (mul g.now p.now) }
 {
-    let mut i = 0;
-    while i < g.len() {
-        let end = i + p.len();
-        add_multiple(&mut place[i..end], g[i], p);
-        i += 1;
+    for (i, a) in g.iter().enumerate() {
+        add_multiple(&mut place[i..i + p.len()], *a, p);
     }
 }

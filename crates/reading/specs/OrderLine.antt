@@ -4,14 +4,19 @@
 --   taken_of order i    the first i columns of an order, the latest first
 --
 -- Main statements
+--   taken-any          a search of the first columns finds those that stand already
 --   columns-next       the columns of an order, one after another
 --   order_is           an order line is its count and then its columns
 --   order-zero         what is known of a column that was let through
 use Prim.Native.Nat.{ℕ, zero, suc, ◌+◌, ◌-◌, ◌≤◌, ◌<◌}
 use Rattle.std.proofs.Common.{le_refl, add-one, sym, ap₂, ◌∙◌, get_or-set_same, get_or-set_other, eq-eqb, ne_eqb}
 use native.Mathlib.Omega.{arith}
-use Rattle.std.specs.Prelude.{◌≡◌, refl, true, ◌&&◌, ◌||◌, not, List, [], ◌∷◌, length, get_or, set, T, eqb, ℤ, pos, nat_abs}
+use Rattle.std.specs.Prelude.{◌≡◌, refl, ◌&&◌, ◌||◌, not, List, [], ◌∷◌, length, get_or, take, set, T, eqb, ℤ, pos, nat_abs}
 use Rattle.std.proofs.Math.Path.{ap}
+use Rattle.std.proofs.Math.Bool.{or_comm}
+use Rattle.std.proofs.Math.Decide.{ℕ_discrete}
+use Rattle.std.proofs.lemmas.List.Folds.{list_any_more}
+use Rattle.std.specs.List.{list_any}
 use Rattle.lists.specs.Tests.{both_true}
 use Rattle.std.specs.Int.Signed.{le_z, non_neg}
 use Rattle.rules.specs.Limits.{column_count}
@@ -28,19 +33,22 @@ unfoldable pub taken_of : List ℕ → ℕ → List ℕ
 taken_of order zero = []
 taken_of order (suc i) = get_or order i 0 ∷ taken_of order i
 
-module _ (c : ℕ) (order : List ℕ) (i : ℕ) (some : 0 < i) where
-  taken_step : contains c (taken_of order i) ≡ (eqb c (get_or order (i - 1) 0) || contains c (taken_of order (i - 1)))
-  unfolding taken_of contains
-  taken_step =
-      let e : i ≡ suc (i - 1) = omega arith in
-      ap (λ k. contains c (taken_of order k)) e
+eqb-swap : (a b : ℕ) → eqb a b ≡ eqb b a
+eqb-swap a b = by (ℕ_discrete a b)
+  where
+    by : Dec (a ≡ b) → eqb a b ≡ eqb b a
+    by (yes e) = eq-eqb a b e ∙ sym (eq-eqb b a (sym e))
+    by (no n) = ne_eqb a b n ∙ sym (ne_eqb b a (λ e. n (sym e)))
 
-  pub taken_here : get_or order (i - 1) 0 ≡ c → contains c (taken_of order i) ≡ true
-  taken_here e = taken_step ∙ ap (λ t. t || contains c (taken_of order (i - 1))) (eq-eqb c (get_or order (i - 1) 0) (sym e))
-
-  pub taken-before : (get_or order (i - 1) 0 ≡ c → ⊥) → contains c (taken_of order i) ≡ contains c (taken_of order (i - 1))
-  taken-before h =
-      taken_step ∙ ap (λ t. t || contains c (taken_of order (i - 1))) (ne_eqb c (get_or order (i - 1) 0) (λ e. h (sym e)))
+-- A search of the first i columns finds those that stand already.
+pub taken-any : (c : ℕ) (order : List ℕ) (i : ℕ) → i ≤ length order → list_any (λ d. eqb d c) (take i order) ≡ contains c (taken_of order i)
+unfolding taken_of contains
+taken-any c order zero h = refl
+taken-any c order (suc i) h =
+    ap (λ k. list_any (λ d. eqb d c) (take k order)) (sym (add-one i))
+    ∙ list_any_more (λ d. eqb d c) order i 0 h
+    ∙ or_comm (list_any (λ d. eqb d c) (take i order)) (eqb (get_or order i 0) c)
+    ∙ ap₂ ◌||◌ (eqb-swap (get_or order i 0) c) (taken-any c order i (omega arith))
 
 -- A column stored behind those that were taken.
 taken_of-before : (order : List ℕ) (i v j : ℕ) → j ≤ i → taken_of (set order i v) j ≡ taken_of order j

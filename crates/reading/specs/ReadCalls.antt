@@ -31,9 +31,11 @@ use Rattle.tokens.specs.Fields.{read_of, fault-of, then-parts, got-not-fault}
 use Rattle.lists.specs.Pasted.{paste-twice}
 use Rattle.reading.specs.Equations.{got-value}
 use Rattle.reading.specs.WholeSheet.{result_of, sheet, pad_sheet, SheetRead}
-use Rattle.reading.specs.declared.sheet.SheetResult.{SheetResult}
+use Rattle.std.specs.Prelude.{Result}
+use Rattle.refusals.specs.declared.Refusal.{Refusal}
+use Rattle.reading.specs.declared.sheet.Sheet.{Sheet as SheetGiven}
 
-unfoldable pub call_of : SheetResult → List ℤ → List ℤ → ReadCall
+unfoldable pub call_of : Result SheetGiven Refusal → List ℤ → List ℤ → ReadCall
 unfolding result_of
 call_of r row_store relation_store = record { result = result_of r; row_store = row_store; relation_store = relation_store }
 
@@ -92,7 +94,7 @@ relations-filled count numbers store few enough =
 -- ---- the call
 
 -- A result that is a refusal, with the stores as they were.
-pub call-unread : (q : SheetResult) (n : ℕ) (row_store relation_store : List ℤ) → result_of q ≡ read_refusal n
+pub call-unread : (q : Result SheetGiven Refusal) (n : ℕ) (row_store relation_store : List ℤ) → result_of q ≡ read_refusal n
     → call_of q row_store relation_store ≡ unread n row_store relation_store
 unfolding call_of unread
 call-unread q n row_store relation_store e = ap (λ r. record { result = r; row_store = row_store; relation_store = relation_store }) e

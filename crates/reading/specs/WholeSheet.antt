@@ -32,7 +32,13 @@ use Rattle.reading.specs.Terms.{padded}
 use Rattle.reading.specs.Equations.{got-value}
 use Rattle.reading.specs.Sides.{side_section_of, all_sides, relation_sides, nothing_more, rest_section}
 use Rattle.stores.specs.Validity.{the_sizes_of}
-use Rattle.reading.specs.declared.sheet.SheetResult.{SheetResult}
+use Rattle.std.specs.Prelude.{Result, IsErrAnd}
+use Rattle.std.proofs.Common.{Ok, Err}
+use Rattle.refusals.specs.Refusals.{number_of as refusal_number}
+use Rattle.refusals.specs.declared.Refusal.{Refusal}
+use Rattle.reading.specs.declared.sheet.Sheet.{Sheet as SheetGiven}
+use Rattle.reading.specs.declared.sheet.SheetHead.{SheetHead}
+use Rattle.reading.specs.declared.own.OwnRead.{OwnRead}
 
 -- ---- sizes
 
@@ -296,9 +302,16 @@ sheet-is bytes =
 
 -- ---- the answer to a whole sheet
 
--- The result of `rules` that a value of the code's type gives.
-unfoldable pub result_of : SheetResult → ReadResult
-result_of r = record { refusal = r.refusal; sizes = the_sizes_of r.sizes; relations = r.relations; order = r.order }
+-- The result of `rules` that a result of the code gives: a refusal has its number, and 0 in all other fields (SCOPE 6.31).
+unfoldable pub result_of : Result SheetGiven Refusal → ReadResult
+unfolding read_refusal
+result_of (Ok r) = record { refusal = 0; sizes = the_sizes_of r.sizes; relations = r.relations; order = r.order }
+result_of (Err e) = read_refusal (refusal_number e)
+
+-- The sheet alone of what was read with the places of its relations.
+abbrev pub sheet_in : Result OwnRead Refusal → Result SheetGiven Refusal
+sheet_in (Ok r) = Ok r.sheet
+sheet_in (Err e) = Err e
 
 -- A sheet that was read into stores: the result and the stores hold it, or the result is the refusal.
 pub record SheetRead (bytes : List ℕ) (r : ReadResult) (rows relations : List ℤ) : Type 0 where
@@ -317,14 +330,15 @@ pub record HeadTo (bytes : List ℕ) (z : Sizes) (count at : ℕ) (rows : List �
       ≡ then_read (then_read (read_relations z count (drop at bytes)) (order_section z (rows_of (equations z) rows))) read_rest
 
 -- So much of a sheet was read, or it is refused.
-pub record HeadRead (bytes : List ℕ) (refusal : ℕ) (z : Sizes) (count at : ℕ) (rows : List ℤ) : Type 0 where
-  pub read : refusal ≡ 0 → HeadTo bytes z count at rows
-  pub refused : (refusal ≡ 0 → ⊥) → then_read (read_sheet_of bytes) pad_sheet ≡ fault refusal
+abbrev pub HeadRead : List ℕ → Sizes → Result SheetHead Refusal → List ℤ → Type 0
+HeadRead bytes z (Ok h) rows = HeadTo bytes (the_sizes_of h.sizes) h.relations h.at rows × (the_sizes_of h.sizes ≡ z)
+HeadRead bytes z (Err e) rows = then_read (read_sheet_of bytes) pad_sheet ≡ fault (refusal_number e)
 
-module _ {bytes : List ℕ} {refusal : ℕ} {z : Sizes} {count at : ℕ} {rows : List ℤ} where
-  pub head-refuses : {n : ℕ} → (n ≡ 0 → ⊥) → then_read (read_sheet_of bytes) pad_sheet ≡ fault n → refusal ≡ n
-      → HeadRead bytes refusal z count at rows
-  head-refuses h e r = record { read = λ z. absurd (h (sym r ∙ z)); refused = λ _. e ∙ ap fault (sym r) }
+-- A head that is refused by what refused one of its parts.
+pub head-fails-on : (bytes : List ℕ) (z : Sizes) (result : Result SheetHead Refusal) (r : Refusal) (rows : List ℤ) → IsErrAnd result (λ e. e ≡ r)
+    → then_read (read_sheet_of bytes) pad_sheet ≡ fault (refusal_number r) → HeadRead bytes z result rows
+head-fails-on bytes z (Ok h) r rows same f = absurd same
+head-fails-on bytes z (Err e) r rows same f = f ∙ ap (λ e. fault (refusal_number e)) (sym same)
 
 module _ (bytes : List ℕ) (z : Sizes) (first : List ℕ) (sizes-read : read_sizes bytes ≡ got z first) where
   -- The equations, and then the relations.
@@ -379,11 +393,6 @@ module _ (z : Sizes) (rows : List Row) (relations : List Relation) (order : List
       → read_rest (sheet z rows relations order) bytes ≡ got (sheet z rows' relations' order) rest
   unfolding with_rest
   end-got f = rest-counted ∙ then-got (with_rest (sheet z rows relations order)) f
-
--- A result that is a refusal.
-pub refused-nonzero : (r : SheetResult) (n : ℕ) → result_of r ≡ read_refusal n → (n ≡ 0 → ⊥) → r.refusal ≡ 0 → ⊥
-unfolding result_of read_refusal
-refused-nonzero r n e h z = h (sym (ap (λ q. q.refusal) e) ∙ z)
 
 module _ (bytes : List ℕ) (r : ReadResult) (rows relations : List ℤ) where
   held : Sheet

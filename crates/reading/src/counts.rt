@@ -2,10 +2,11 @@
 ghost use Rattle.std.specs.Prelude.{◌≡◌, ◌≤◌, length, drop, pos};
 ghost use Rattle.rules.specs.Numbers.{field, between};
 ghost use Rattle.rules.specs.Sheets.{after_count_of};
-ghost use Rattle.tokens.specs.Fields.{Answers};
+ghost use Rattle.tokens.specs.Fields.{FoundIn};
 ghost use Rattle.rules.specs.Sheets as Sheets;
 
-use tokens::Straight;
+use refusals::Refusal;
+use tokens::Found;
 
 // The separator after a count: the line ends if nothing is counted (SCOPE 4.15, 4.21).
 pub fn after_count(value: i64) -> u8
@@ -29,28 +30,29 @@ pub fn parting(left: usize) -> u8
 }
 
 // A count of 0 to `most` things, read in general.
-fn any_count_at(bytes: &[u8], at: usize, most: i64) -> tokens::NumberRead
+fn any_count_at(bytes: &[u8], at: usize, most: i64) -> Result<Found, Refusal>
     requires { at ≤ length bytes.now }
-    ensures { Answers bytes.now result.refusal result.value result.at
-        (field (between (pos 0) most) after_count_of (drop at bytes.now)) }
+    ensures { FoundIn bytes.now result (field (between (pos 0) most) after_count_of (drop at bytes.now)) }
 {
-    let n = tokens::number_at(bytes, at);
-    let judgement = tokens::judge_between(0, most, n.value);
-    let separator = after_count(n.value);
-    tokens::separated(bytes, n, judgement, separator)
+    tokens::any_field_at(
+        bytes,
+        at,
+        |value| tokens::judge_between(0, most, value),
+        after_count,
+    )
 }
 
 // A count of 0 to `most` things.
-pub fn count_at(bytes: &[u8], at: usize, most: i64) -> tokens::NumberRead
+pub fn count_at(bytes: &[u8], at: usize, most: i64) -> Result<Found, Refusal>
     requires { at ≤ length bytes.now }
-    ensures { Answers bytes.now result.refusal result.value result.at
-        (field (between (pos 0) most) after_count_of (drop at bytes.now)) }
+    ensures { FoundIn bytes.now result (field (between (pos 0) most) after_count_of (drop at bytes.now)) }
 {
-    let Straight::Number(d) = tokens::digit_at(bytes, at, 32) else {
+    let Some(d) = tokens::digit_at(bytes, at, 32) else {
         return any_count_at(bytes, at, most);
     };
     if after_count(d.value) != 32 {
         return any_count_at(bytes, at, most);
     }
-    tokens::judged(d, tokens::judge_between(0, most, d.value))
+    tokens::judge_between(0, most, d.value)?;
+    Ok(d)
 }

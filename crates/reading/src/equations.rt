@@ -5,24 +5,21 @@ ghost use Rattle.rules.specs.Limits.{column_count, most_span, row_length};
 ghost use Rattle.rules.specs.Stores.{span, row_of, sizes_right_of};
 ghost use Rattle.rules.specs.Calls.{zeros};
 ghost use Rattle.rules.specs.Sheets.{blank_row, read_equation};
-ghost use Rattle.tokens.specs.Fields.{Answers};
+ghost use Rattle.tokens.specs.Fields.{Reads};
 ghost use Rattle.stores.specs.Validity.{the_sizes_of};
 ghost use Rattle.reading.specs.Equations.{terms_into};
 ghost use Rattle.reading.specs.Terms.{place_in_row_of};
 
 use polynomials::lengths::COEFFICIENTS;
+use refusals::Refusal;
 use stores::lengths::BLOCK;
 
-// The first n numbers of `from`, copied to the place `at` of `to`.
-pub(crate) fn copy(to: &mut [i64], at: usize, from: &[i64], n: usize)
-    requires { (at + n ≤ length to.old) × (n ≤ length from.now) }
-    ensures { to.new ≡ paste to.old at from.now n }
+// The first n numbers of `from`, copied to the front of `to`.
+pub(crate) fn copy(to: &mut [i64], from: &[i64], n: usize)
+    requires { (n ≤ length to.old) × (n ≤ length from.now) }
+    ensures { to.new ≡ paste to.old 0 from.now n }
 {
-    let mut i = 0;
-    while i < n {
-        to[at + i] = from[i];
-        i += 1;
-    }
+    to[..n].copy_from_slice(&from[..n]);
 }
 
 // Where the polynomial of a block and a column begins in a row (SCOPE 3.2).
@@ -34,19 +31,6 @@ fn place_in_row(l: i64, block: i64, column: usize) -> usize
     (l - block) as usize * BLOCK + (column - 1) * COEFFICIENTS
 }
 
-// The place after what was read into a store, or a refusal.
-#[derive(Drop)]
-pub struct PartRead {
-    pub refusal: u8,
-    pub at: usize,
-}
-
-pub fn no_part(refusal: u8) -> PartRead
-    ensures { (result.refusal ≡ refusal) × (result.at ≡ 0) }
-{
-    PartRead { refusal, at: 0 }
-}
-
 // `count` terms, each read into its place in the numbers of a row that is zero (SCOPE 4.23).
 fn terms_at(
     bytes: &[u8],
@@ -54,36 +38,24 @@ fn terms_at(
     z: stores::validity::Sizes,
     count: usize,
     row: &mut [i64],
-) -> PartRead
+) -> Result<usize, Refusal>
     requires at_in_bounds { (at ≤ length bytes.now) × T (sizes_right_of (the_sizes_of z)) }
     requires row_value { row.old ≡ zeros row_length }
-    ensures { Answers bytes.now result.refusal (row_of row.new) result.at (terms_into (the_sizes_of z) count z.l 0 blank_row (drop at bytes.now)) }
+    ensures { Reads bytes.now (λ _. row_of row.new) (λ next. next) result (terms_into (the_sizes_of z) count z.l 0 blank_row (drop at bytes.now)) }
 {
     let mut next = at;
     let mut block = z.l;
     let mut column = 0;
-    let mut left = count;
-    while 0 < left {
-        left -= 1;
-        let q = crate::terms::place_at(bytes, next, z, block, column);
-        if q.refusal != 0 {
-            return no_part(q.refusal);
-        }
+    for i in 0..count {
+        let q = crate::terms::place_at(bytes, next, z, block, column)?;
         let from = place_in_row(z.l, q.block, q.column);
         let to = from + COEFFICIENTS;
-        let separator = crate::counts::parting(left);
-        let p = crate::terms::polynomial_at(bytes, q.at, separator, &mut row[from..to]);
-        if p.refusal != 0 {
-            return no_part(p.refusal);
-        }
-        next = p.at;
+        let separator = crate::counts::parting(count - (i + 1));
+        next = crate::terms::polynomial_at(bytes, q.at, separator, &mut row[from..to])?;
         block = q.block;
         column = q.column;
     }
-    PartRead {
-        refusal: 0,
-        at: next,
-    }
+    Ok(next)
 }
 
 // An equation has at most m × (D + 1) terms (SCOPE 4.21).
@@ -100,14 +72,11 @@ pub(crate) fn equation_at(
     at: usize,
     z: stores::validity::Sizes,
     row: &mut [i64],
-) -> PartRead
+) -> Result<usize, Refusal>
     requires at_in_bounds { (at ≤ length bytes.now) × T (sizes_right_of (the_sizes_of z)) }
     requires row_value { row.old ≡ zeros row_length }
-    ensures { Answers bytes.now result.refusal (row_of row.new) result.at (read_equation (the_sizes_of z) (drop at bytes.now)) }
+    ensures { Reads bytes.now (λ _. row_of row.new) (λ next. next) result (read_equation (the_sizes_of z) (drop at bytes.now)) }
 {
-    let k = crate::counts::count_at(bytes, at, most_terms(z));
-    if k.refusal != 0 {
-        return no_part(k.refusal);
-    }
+    let k = crate::counts::count_at(bytes, at, most_terms(z))?;
     terms_at(bytes, k.at, z, k.value as usize, row)
 }

@@ -6,6 +6,7 @@ ghost use Rattle.std.specs.Prelude.{◌≡◌};
 ghost use Rattle.rules.specs.SheetCalls.{read_call};
 ghost use Rattle.reading.specs.ReadCalls.{call_of};
 
+use refusals::Refusal;
 use stores::lengths::{RELATION, RELATIONS, ROWS};
 
 pub mod counts;
@@ -20,15 +21,17 @@ mod terms;
 
 // The sheet is read into stores of its own first, so that the lent stores are unchanged on a refusal (SCOPE 4.43). A
 // sheet without relations needs none for them.
-pub fn read_sheet(bytes: &[u8], rows: &mut [i64], relations: &mut [i64]) -> sheet::SheetResult
+pub fn read_sheet(
+    bytes: &[u8],
+    rows: &mut [i64],
+    relations: &mut [i64],
+) -> Result<sheet::Sheet, Refusal>
     ensures { call_of result rows.new relations.new
         ≡ read_call bytes.now rows.old relations.old }
 {
+    let z = sizes::sizes_at(bytes, 0)?;
     let mut row_numbers = [0i64; ROWS];
-    let h = sheet::head_at(bytes, &mut row_numbers);
-    if h.refusal != 0 {
-        return sheet::refused(h.refusal);
-    }
+    let h = sheet::head_at(bytes, z, &mut row_numbers)?;
     let used = h.relations * RELATION;
     if used == 0 {
         let mut none = [0i64; 1];

@@ -4,9 +4,10 @@ ghost use Rattle.rules.specs.Limits.{most_equations, row_length, relation_length
 ghost use Rattle.rules.specs.Stores.{rows_of, relation_of, relations_of, sizes_right_of};
 ghost use Rattle.rules.specs.Calls.{zeros};
 ghost use Rattle.rules.specs.Sheets.{read_equations, read_relation, read_relations};
-ghost use Rattle.tokens.specs.Fields.{Answers};
+ghost use Rattle.tokens.specs.Fields.{Reads};
 ghost use Rattle.stores.specs.Validity.{the_sizes_of};
 
+use refusals::Refusal;
 use stores::lengths::{RELATION, ROW};
 
 // So many equations, read into the rows of `rows` (SCOPE 4.13).
@@ -16,28 +17,19 @@ pub(crate) fn equations_at(
     z: stores::validity::Sizes,
     equations: usize,
     rows: &mut [i64],
-) -> crate::equations::PartRead
+) -> Result<usize, Refusal>
     requires at_in_bounds { (at ≤ length bytes.now) × T (sizes_right_of (the_sizes_of z)) }
     requires equations_le_most_equations { (equations ≤ most_equations) × (rows.old ≡ zeros (equations * row_length)) }
-    ensures { Answers bytes.now result.refusal (rows_of equations rows.new) result.at
+    ensures { Reads bytes.now (λ _. rows_of equations rows.new) (λ next. next) result
         (read_equations (the_sizes_of z) equations (drop at bytes.now)) }
 {
     let mut next = at;
-    let mut i = 0;
-    while i < equations {
+    for i in 0..equations {
         let from = i * ROW;
         let to = from + ROW;
-        let e = crate::equations::equation_at(bytes, next, z, &mut rows[from..to]);
-        if e.refusal != 0 {
-            return crate::equations::no_part(e.refusal);
-        }
-        next = e.at;
-        i += 1;
+        next = crate::equations::equation_at(bytes, next, z, &mut rows[from..to])?;
     }
-    crate::equations::PartRead {
-        refusal: 0,
-        at: next,
-    }
+    Ok(next)
 }
 
 // n0 and an equation, read into the numbers of a relation (SCOPE 3.4, 4.14).
@@ -46,17 +38,13 @@ fn relation_at(
     at: usize,
     z: stores::validity::Sizes,
     relation: &mut [i64],
-) -> crate::equations::PartRead
+) -> Result<usize, Refusal>
     requires at_in_bounds { (at ≤ length bytes.now) × T (sizes_right_of (the_sizes_of z)) }
     requires relation_value { relation.old ≡ zeros relation_length }
-    ensures { Answers bytes.now result.refusal (relation_of relation.new) result.at (read_relation (the_sizes_of z) (drop at bytes.now)) }
+    ensures { Reads bytes.now (λ _. relation_of relation.new) (λ next. next) result (read_relation (the_sizes_of z) (drop at bytes.now)) }
 {
-    let n = tokens::small_at(bytes, at);
-    if n.refusal != 0 {
-        return crate::equations::no_part(n.refusal);
-    }
-    let index = n.value;
-    relation[0] = index;
+    let n = tokens::small_at(bytes, at)?;
+    relation[0] = n.value;
     crate::equations::equation_at(bytes, n.at, z, &mut relation[1..])
 }
 
@@ -67,25 +55,16 @@ pub(crate) fn relations_at(
     z: stores::validity::Sizes,
     count: usize,
     relations: &mut [i64],
-) -> crate::equations::PartRead
+) -> Result<usize, Refusal>
     requires at_in_bounds { (at ≤ length bytes.now) × T (sizes_right_of (the_sizes_of z)) }
     requires count_bound { (count ≤ 16) × (relations.old ≡ zeros (count * relation_length)) }
-    ensures { Answers bytes.now result.refusal (relations_of count relations.new) result.at (read_relations (the_sizes_of z) count (drop at bytes.now)) }
+    ensures { Reads bytes.now (λ _. relations_of count relations.new) (λ next. next) result (read_relations (the_sizes_of z) count (drop at bytes.now)) }
 {
     let mut next = at;
-    let mut i = 0;
-    while i < count {
+    for i in 0..count {
         let from = i * RELATION;
         let to = from + RELATION;
-        let e = relation_at(bytes, next, z, &mut relations[from..to]);
-        if e.refusal != 0 {
-            return crate::equations::no_part(e.refusal);
-        }
-        next = e.at;
-        i += 1;
+        next = relation_at(bytes, next, z, &mut relations[from..to])?;
     }
-    crate::equations::PartRead {
-        refusal: 0,
-        at: next,
-    }
+    Ok(next)
 }

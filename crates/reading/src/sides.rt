@@ -1,59 +1,53 @@
 // The fifth section: a right side for each equation and each relation, read into the rows and relations of stores (SCOPE 4.16).
 ghost use Rattle.std.specs.Prelude.{◌≡◌, ◌&&◌, ◌+◌, ◌*◌, ◌≤◌, eqb, length, drop};
 ghost use Rattle.algebra.specs.Polynomials.{is_zero_of};
+ghost use Rattle.refusals.specs.Refusals.{refusal_in};
 ghost use Rattle.rules.specs.Limits.{coefficient_count, most_equations, most_relations, row_length, relation_length};
 ghost use Rattle.rules.specs.Stores.{rows_of, relations_of};
 ghost use Rattle.rules.specs.Numbers.{field, then_read};
 ghost use Rattle.rules.specs.Sheets.{after_count_of, always, judge_side_of, judge_side_count, read_side};
-ghost use Rattle.tokens.specs.Fields.{read_of, Answers};
+ghost use Rattle.tokens.specs.Fields.{FoundIn, Reads};
 ghost use Rattle.reading.specs.Sides.{side_of, sides_into, side_section_of, rest_section};
 
 use crate::terms::MOST;
 use polynomials::lengths::COEFFICIENTS;
+use refusals::Refusal;
 use stores::lengths::{ENTRIES, RELATION, ROW};
+use tokens::Found;
 
 // A count that is not from 0 to MOST is 2 (SCOPE 4.34); then 0 is 3 where the side is needed (SCOPE 4.35).
-fn judge_side(needed: bool, value: i64) -> u8
-    ensures { result ≡ judge_side_of needed value }
+fn judge_side(needed: bool, value: i64) -> Result<(), Refusal>
+    ensures { refusal_in result ≡ judge_side_of needed value }
 {
     if tokens::is_between(0, MOST, value) {
         if value != 0 {
-            return 0;
+            return Ok(());
         }
         if needed {
-            return 3;
+            return Err(Refusal::Malformed);
         }
-        return 0;
+        return Ok(());
     }
-    2
+    Err(Refusal::OutOfRange)
 }
 
-fn side_count_at(bytes: &[u8], at: usize, needed: bool) -> tokens::NumberRead
+fn side_count_at(bytes: &[u8], at: usize, needed: bool) -> Result<Found, Refusal>
     requires { at ≤ length bytes.now }
-    ensures { Answers bytes.now result.refusal result.value result.at (field (judge_side_of needed) after_count_of (drop at bytes.now)) }
+    ensures { FoundIn bytes.now result (field (judge_side_of needed) after_count_of (drop at bytes.now)) }
 {
-    let n = tokens::number_at(bytes, at);
-    let judgement = judge_side(needed, n.value);
-    let separator = crate::counts::after_count(n.value);
-    tokens::separated(bytes, n, judgement, separator)
+    tokens::any_field_at(
+        bytes,
+        at,
+        |value| judge_side(needed, value),
+        crate::counts::after_count,
+    )
 }
 
-// The place after the sides that were read, and whether they and all before them are zero; or a refusal.
-#[derive(Drop)]
+// The place after the sides that were read, and whether they and all before them are zero.
+#[derive(Clone, Copy)]
 pub(crate) struct SidesRead {
-    pub refusal: u8,
     pub at: usize,
     pub none: bool,
-}
-
-fn no_sides(refusal: u8) -> SidesRead
-    ensures { (result.refusal ≡ refusal) × (result.at ≡ 0) }
-{
-    SidesRead {
-        refusal,
-        at: 0,
-        none: false,
-    }
 }
 
 fn still_none(none: bool, p: &[i64]) -> bool
@@ -63,24 +57,23 @@ fn still_none(none: bool, p: &[i64]) -> bool
 }
 
 // The number of coefficients and the coefficients, read into the numbers of a polynomial (SCOPE 4.25).
-fn side_at(bytes: &[u8], at: usize, needed: bool, none: bool, p: &mut [i64]) -> SidesRead
+fn side_at(
+    bytes: &[u8],
+    at: usize,
+    needed: bool,
+    none: bool,
+    p: &mut [i64],
+) -> Result<SidesRead, Refusal>
     requires { (at ≤ length bytes.now) × (length p.old ≡ coefficient_count) }
-    ensures { Answers bytes.now result.refusal (p.new, result.none) result.at
+    ensures { Reads bytes.now (λ s. (p.new, s.none)) (λ s. s.at) result
         (then_read (read_side needed (drop at bytes.now)) (side_of none)) }
 {
-    let k = side_count_at(bytes, at, needed);
-    if k.refusal != 0 {
-        return no_sides(k.refusal);
-    }
-    let c = crate::terms::coefficients_at(bytes, k.at, k.value as usize, 10, p);
-    if c.refusal != 0 {
-        return no_sides(c.refusal);
-    }
-    SidesRead {
-        refusal: 0,
-        at: c.at,
+    let k = side_count_at(bytes, at, needed)?;
+    let c = crate::terms::coefficients_at(bytes, k.at, k.value as usize, 10, p)?;
+    Ok(SidesRead {
+        at: c,
         none: still_none(none, p),
-    }
+    })
 }
 
 // The last side is needed where all before it are zero.
@@ -101,56 +94,48 @@ fn sides_at(
     width: usize,
     from: usize,
     store: &mut [i64],
-) -> SidesRead
+) -> Result<SidesRead, Refusal>
     requires at_in_bounds { (at ≤ length bytes.now) × (count ≤ most_relations) × (others ≤ most_relations) }
     requires coefficient_count_bound { (from + coefficient_count ≤ width) × (width ≤ relation_length) × (count * width ≤ length store.old) }
-    ensures { Answers bytes.now result.refusal (store.new, result.none) result.at
+    ensures { Reads bytes.now (λ s. (store.new, s.none)) (λ s. s.at) result
         (sides_into width from 0 count others none store.old (drop at bytes.now)) }
 {
     let mut next = at;
     let mut zero = none;
-    let mut i = 0;
-    while i < count {
+    for i in 0..count {
         let needed = is_needed(zero, count - (i + 1) + others);
         let start = i * width + from;
         let end = start + COEFFICIENTS;
-        let s = side_at(bytes, next, needed, zero, &mut store[start..end]);
-        if s.refusal != 0 {
-            return no_sides(s.refusal);
-        }
+        let s = side_at(bytes, next, needed, zero, &mut store[start..end])?;
         next = s.at;
         zero = s.none;
-        i += 1;
     }
-    SidesRead {
-        refusal: 0,
+    Ok(SidesRead {
         at: next,
         none: zero,
-    }
+    })
 }
 
 // A number of sides other than that of the equations and relations is 2 (SCOPE 4.34); where there are none, the number 0 is 3, since
 // a section of zeros only is no fifth section (SCOPE 4.35).
-fn judge_total(total: usize, value: i64) -> u8
+fn judge_total(total: usize, value: i64) -> Result<(), Refusal>
     requires { total ≤ most_equations + most_relations }
-    ensures { result ≡ judge_side_count total value }
+    ensures { refusal_in result ≡ judge_side_count total value }
 {
     if total == 0 {
         if value == 0 {
-            return 3;
+            return Err(Refusal::Malformed);
         }
-        return 2;
+        return Err(Refusal::OutOfRange);
     }
     tokens::judge_between(total as i64, total as i64, value)
 }
 
-fn total_at(bytes: &[u8], at: usize, total: usize) -> tokens::NumberRead
+fn total_at(bytes: &[u8], at: usize, total: usize) -> Result<Found, Refusal>
     requires { (at ≤ length bytes.now) × (total ≤ most_equations + most_relations) }
-    ensures { Answers bytes.now result.refusal result.value result.at (field (judge_side_count total) (always 10) (drop at bytes.now)) }
+    ensures { FoundIn bytes.now result (field (judge_side_count total) (always 10) (drop at bytes.now)) }
 {
-    let n = tokens::number_at(bytes, at);
-    let judgement = judge_total(total, n.value);
-    tokens::separated(bytes, n, judgement, 10)
+    tokens::field_at(bytes, at, 10, |value| judge_total(total, value))
 }
 
 // The number of the sides, and the sides (SCOPE 4.16).
@@ -161,21 +146,15 @@ fn side_section(
     count: usize,
     rows: &mut [i64],
     relations: &mut [i64],
-) -> crate::equations::PartRead
+) -> Result<usize, Refusal>
     requires at_in_bounds { (at ≤ length bytes.now) × (equations ≤ most_equations) × (count ≤ most_relations) }
     requires row_length_in_bounds { (equations * row_length ≤ length rows.old) × (count * relation_length ≤ length relations.old) }
-    ensures { Answers bytes.now result.refusal (rows_of equations rows.new, relations_of count relations.new) result.at
+    ensures { Reads bytes.now (λ _. (rows_of equations rows.new, relations_of count relations.new)) (λ next. next) result
         (side_section_of equations count (rows_of equations rows.old) (relations_of count relations.old)
         (drop at bytes.now)) }
 {
-    let k = total_at(bytes, at, equations + count);
-    if k.refusal != 0 {
-        return crate::equations::no_part(k.refusal);
-    }
-    let e = sides_at(bytes, k.at, equations, count, true, ROW, ENTRIES, rows);
-    if e.refusal != 0 {
-        return crate::equations::no_part(e.refusal);
-    }
+    let k = total_at(bytes, at, equations + count)?;
+    let e = sides_at(bytes, k.at, equations, count, true, ROW, ENTRIES, rows)?;
     let r = sides_at(
         bytes,
         e.at,
@@ -185,14 +164,8 @@ fn side_section(
         RELATION,
         1 + ENTRIES,
         relations,
-    );
-    if r.refusal != 0 {
-        return crate::equations::no_part(r.refusal);
-    }
-    crate::equations::PartRead {
-        refusal: 0,
-        at: r.at,
-    }
+    )?;
+    Ok(r.at)
 }
 
 // What stands behind the fourth section: no byte, or the fifth section and no byte behind it, which would be 4 (SCOPE 4.37).
@@ -203,23 +176,19 @@ pub(crate) fn end_at(
     count: usize,
     rows: &mut [i64],
     relations: &mut [i64],
-) -> u8
+) -> Result<(), Refusal>
     requires at_in_bounds { (at ≤ length bytes.now) × (equations ≤ most_equations) × (count ≤ most_relations) }
     requires row_length_in_bounds { (equations * row_length ≤ length rows.old) × (count * relation_length ≤ length relations.old) }
-    ensures { read_of bytes.now result (rows_of equations rows.new, relations_of count relations.new)
-        (length bytes.now)
-        ≡ rest_section equations count (rows_of equations rows.old) (relations_of count relations.old)
-        (drop at bytes.now) }
+    ensures { Reads bytes.now (λ _. (rows_of equations rows.new, relations_of count relations.new)) (λ _. length bytes.now) result
+        (rest_section equations count (rows_of equations rows.old) (relations_of count relations.old)
+        (drop at bytes.now)) }
 {
     if at == bytes.len() {
-        return 0;
+        return Ok(());
     }
-    let s = side_section(bytes, at, equations, count, rows, relations);
-    if s.refusal != 0 {
-        return s.refusal;
+    let s = side_section(bytes, at, equations, count, rows, relations)?;
+    if s < bytes.len() {
+        return Err(Refusal::WrongEnd);
     }
-    if s.at < bytes.len() {
-        return 4;
-    }
-    0
+    Ok(())
 }

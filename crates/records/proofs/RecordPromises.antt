@@ -22,7 +22,6 @@ use Rattle.records.specs.Records.{check_record_of, after_check, record_call}
 use Rattle.records.specs.RecordChecks.{RecordRight, check_record-zero}
 use Rattle.records.specs.RecordMeaning.{Agrees, RowPasses}
 use Rattle.records.specs.Outcomes.{First, FailsWith, fails-first}
-use Rattle.records.specs.Explained as Explained
 use Rattle.records.proofs.Explained as ExplainedLaws
 use Rattle.records.specs.Explained.{named, Explains, satisfied-explains}
 

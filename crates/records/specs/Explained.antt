@@ -6,7 +6,7 @@
 --
 -- Main statements
 --   satisfied-explains      a sequence that satisfies the system and agrees with the record explains it, so it never fails
-use Prim.Native.Nat.{ℕ, pred, ◌-◌}
+use Prim.Native.Nat.{ℕ, pred}
 use Rattle.std.specs.Prelude.{◌≡◌, get_or, ℤ}
 use mathlib.Core.List.{List}
 use Rattle.std.proofs.Math.Dec.{T}

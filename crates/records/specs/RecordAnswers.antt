@@ -1,13 +1,13 @@
 -- Answers as the code comes to them, one test after another.
 --
 -- Main definitions
---   answer_of            what the cases of the code's `Answer` mean
+--   answer_of            what the code's findings and refusals mean
 --   go_on                what more tests make of an answer
 --
 -- Main statements
 --   answer-past, answer-zero, answer-fails   a test past the limit, one with sum zero, and one that fails
 --   answer-fits         "fits" says that each sum is zero
---   answer-append, stays   tests in two parts
+--   answer-append, stays, refused-stays   tests in two parts
 --   answer-count        "fits" counts the tests
 --   rows_next, relations-next, row-tests-next, relation-tests-next   one row, or one relation, more
 --   row_small, relation-small, rows-small   the numbers of a row, or of a relation, that passed the check
@@ -17,7 +17,7 @@
 --   equations-count     as many tests as rows at each n
 --   span-few, t-near, l-near, index-size   how large right sizes are, and an index that is tested
 use Prim.Native.Nat.{ℕ, zero, suc, ◌+◌, ◌*◌, ◌≤◌, ◌<◌}
-use Rattle.std.proofs.Common.{add-zero, zero-mul, suc-mul, add-one, sym, ◌∙◌, ap₂, subst, leb→le, length-drop, length-append, length-take-le}
+use Rattle.std.proofs.Common.{Result, Ok, Err, add-zero, zero-mul, suc-mul, add-one, sym, ◌∙◌, ap₂, subst, leb→le, length-drop, length-append, length-take-le}
 use native.Mathlib.Omega.{arith}
 use Rattle.std.specs.Prelude.{◌≡◌, ◌≢◌, Bool, T, take, drop, get_or, ℤ, pos, neg_ℤ, nat_abs, ◌-ℤ◌, ◌≤ℤ◌}
 use Rattle.std.proofs.Math.Path.{refl, ap}
@@ -42,14 +42,16 @@ use Rattle.records.specs.Records.{equation, relation, Tested, row_sum_of, row_te
 use Rattle.records.specs.Records.{index_from_of, top_at}
 use Rattle.records.specs.Records.{Answer, fits, fails, refused, limit_passed, answer_to, index_bound, most_vectors}
 use Rattle.records.specs.RecordPlaces.{top-at}
-use Rattle.records.specs.declared.Answer as declared
-use Rattle.records.specs.declared.Answer.TheVariants as code
+use Rattle.records.specs.declared.Finding.{Finding}
+use Rattle.records.specs.declared.Finding.TheVariants as code
+use Rattle.refusals.specs.declared.Refusal.{Refusal}
+use Rattle.refusals.specs.Refusals.{number_of}
 
-unfoldable pub answer_of : declared.Answer → Answer
-answer_of (code.Fits k) = fits k
-answer_of (code.Equation i n s) = fails (equation i) n s
-answer_of (code.Relation i n s) = fails (relation i) n s
-answer_of (code.Refused k) = refused k
+unfoldable pub answer_of : Result Finding Refusal → Answer
+answer_of (Ok (code.Fits k)) = fits k
+answer_of (Ok (code.Equation i n s)) = fails (equation i) n s
+answer_of (Ok (code.Relation i n s)) = fails (relation i) n s
+answer_of (Err r) = refused (number_of r)
 
 -- ---- one test
 
@@ -114,12 +116,15 @@ answer-append k (t ∷ ts) us = go t.sum (answer-append (suc k) ts us)
     go (some s) e = step s (is_zero_ℤ s) e
 
 -- What is not "fits" stays, whatever is tested later.
-pub stays : (a : declared.Answer) (ts : List Tested) → ((k : ℕ) → a ≡ code.Fits k → ⊥) → go_on ts (answer_of a) ≡ answer_of a
+pub stays : (f : Finding) (ts : List Tested) → ((k : ℕ) → f ≡ code.Fits k → ⊥) → go_on ts (answer_of (Ok f)) ≡ answer_of (Ok f)
 unfolding go_on answer_of
 stays (code.Fits k) ts h = absurd (h k refl)
 stays (code.Equation i n s) ts h = refl
 stays (code.Relation i n s) ts h = refl
-stays (code.Refused k) ts h = refl
+
+pub refused-stays : (r : Refusal) (ts : List Tested) → go_on ts (answer_of (Err r)) ≡ answer_of (Err r)
+unfolding go_on answer_of
+refused-stays r ts = refl
 
 pub answer-count : (k j : ℕ) (ts : List Tested) → answer_to k ts ≡ fits j → j ≡ k + length ts
 unfolding answer_to

@@ -16,7 +16,7 @@
 --   left_near                   which leaves room for one product more
 --   all-next                    one row more
 --   stored-tests, stored-formed     the tests of the rows are those; where they fit, all sums are formed
-use Prim.Native.Nat.{ℕ, zero, suc, ◌+◌, ◌*◌, ◌-◌, ◌≤◌, ◌<◌, zero-le}
+use Prim.Native.Nat.{ℕ, zero, suc, ◌+◌, ◌*◌, ◌≤◌, ◌<◌, zero-le}
 use Rattle.std.proofs.Common.{mul-le-mul, zero-add, add-one, ◌∙◌, subst, inl, inr, leb→le, le→leb, get_or-set_same, get_or-set_other}
 use Rattle.std.proofs.Math.Decide.{dec_lt, dec_le}
 use native.Mathlib.Omega.{arith}

@@ -1,7 +1,11 @@
 // The checks of the call: sizes (2), then lengths (1), then numbers (5), each of the system first (SCOPE 12.14).
 ghost use Rattle.std.specs.Prelude.{◌≡◌, leb, nat_abs};
+ghost use Rattle.refusals.specs.Refusals.{refusal_in};
+ghost use Rattle.rules.specs.Stores.{check_stores_of};
 ghost use Rattle.stores.specs.Validity.{the_sizes_of};
 ghost use Rattle.records.specs.Records as Records;
+
+use refusals::Refusal;
 
 // The largest number of vectors (SCOPE 12.11).
 const VECTORS: usize = 64;
@@ -38,17 +42,20 @@ fn record_right(first: i64, vectors: usize) -> bool
 fn values_right(values: &[i64]) -> bool
     ensures { result ≡ Records.values_right_of values.now }
 {
-    let mut i = 0;
-    while i < values.len() {
-        if !within(values[i], VALUE) {
-            return false;
-        }
-        i += 1;
-    }
-    true
+    values.iter().all(|value| within(*value, VALUE))
 }
 
-// The number of the first check that fails, or 0.
+// The number of the system's first check that fails, or 0: by number, since checks of the record come between those of the system.
+fn check_stores(rows: &[i64], relations: &[i64], sizes: stores::validity::Sizes, count: usize) -> u8
+    ensures { result ≡ check_stores_of (the_sizes_of sizes) count rows.now relations.now }
+{
+    match stores::validity::check_stores(rows, relations, sizes, count) {
+        Ok(()) => 0,
+        Err(refusal) => refusal.number(),
+    }
+}
+
+// The first check that fails.
 pub(crate) fn check(
     rows: &[i64],
     relations: &[i64],
@@ -57,29 +64,29 @@ pub(crate) fn check(
     first: i64,
     vectors: usize,
     values: &[i64],
-) -> u8
-    ensures { result ≡ Records.check_record_of (the_sizes_of sizes) count first vectors
+) -> Result<(), Refusal>
+    ensures { refusal_in result ≡ Records.check_record_of (the_sizes_of sizes) count first vectors
         rows.now relations.now values.now }
 {
-    let system = stores::validity::check_stores(rows, relations, sizes, count);
+    let system = check_stores(rows, relations, sizes, count);
     if system == 2 {
-        return 2;
+        return Err(Refusal::OutOfRange);
     }
     if !record_right(first, vectors) {
-        return 2;
+        return Err(Refusal::OutOfRange);
     }
     if system == 1 {
-        return 1;
+        return Err(Refusal::ShortStore);
     }
     let need = vectors * sizes.m;
     if values.len() < need {
-        return 1;
+        return Err(Refusal::ShortStore);
     }
     if system == 5 {
-        return 5;
+        return Err(Refusal::PastBound);
     }
     if !values_right(&values[..need]) {
-        return 5;
+        return Err(Refusal::PastBound);
     }
-    0
+    Ok(())
 }

@@ -14,6 +14,7 @@ ghost use Rattle.records.specs.Records as Records;
 ghost use Rattle.records.specs.RecordAnswers.{answer_of};
 ghost use Rattle.records.specs.Successive.{ZerosAt, AllKnown, stored_tests};
 
+use refusals::Refusal;
 use stores::lengths::{EQUATIONS, RELATION, ROW};
 use sums::TESTS;
 
@@ -21,18 +22,13 @@ mod checks;
 mod sums;
 mod terms;
 
-// A value of Horner's rule is past its limit (SCOPE 12.31).
-const LIMIT_PASSED: u8 = 12;
-
-// What the tests of a record say (SCOPE 12.24): all fit, and how many were tested; or the first failure, by the number of its equation
-// or relation, its index and its nonzero sum; or a refusal. `answer_of` states what each case means.
-#[derive(Drop)]
-#[derive(Clone, Copy)]
-pub enum Answer {
+// What the tests of a record find (SCOPE 12.24): all fit, and how many were tested; or the first failure, by the number of its equation
+// or relation, its index and its nonzero sum. `answer_of` states what each case means.
+#[derive(Clone, Copy, Debug, PartialEq, Eq)]
+pub enum Finding {
     Fits(usize),
     Equation(usize, i64, i64),
     Relation(usize, i64, i64),
-    Refused(u8),
 }
 
 // The sums of the equations at so many successive n, those of an equation behind those of the one before, and at how many n each is formed.
@@ -55,8 +51,7 @@ fn equation_sums(
         × ZerosAt sums.old 0 (most_equations * Records.most_vectors) }
     ensures { AllKnown m span n values.now rows.now tests sums.new formed.new equations }
 {
-    let mut i = 0;
-    while i < equations {
+    for i in 0..equations {
         formed[i] = sums::row_sums(
             sums,
             i * TESTS,
@@ -68,7 +63,6 @@ fn equation_sums(
             m,
             span,
         );
-        i += 1;
     }
 }
 
@@ -80,24 +74,22 @@ fn equations_at(
     j: usize,
     n: i64,
     before: usize,
-) -> Answer
+) -> Result<Finding, Refusal>
     requires equations_le_most_equations { (equations ≤ most_equations) × (length formed.now ≡ most_equations) × (before + equations ≤ 1000) }
     requires most_equations_in_bounds { (most_equations * Records.most_vectors ≤ length sums.now) × (j < Records.most_vectors) }
     ensures { answer_of result
         ≡ Records.answer_to before (stored_tests n sums.now formed.now j 0 equations) }
 {
-    let mut i = 0;
-    while i < equations {
+    for i in 0..equations {
         if formed[i] <= j {
-            return Answer::Refused(LIMIT_PASSED);
+            return Err(Refusal::ValuePassed);
         }
         let sum = sums[i * TESTS + j];
         if sum != 0 {
-            return Answer::Equation(i + 1, n, sum);
+            return Ok(Finding::Equation(i + 1, n, sum));
         }
-        i += 1;
     }
-    Answer::Fits(before + equations)
+    Ok(Finding::Fits(before + equations))
 }
 
 // The n whose lowest block meets vector j (SCOPE 12.22).
@@ -116,7 +108,7 @@ fn equations_fit(
     first: i64,
     vectors: usize,
     values: &[i64],
-) -> Answer
+) -> Result<Finding, Refusal>
     requires t { T (Stores.sizes_right_of (the_sizes_of sizes)) × (nat_abs first ≤ Records.index_bound) × (vectors ≤ Records.most_vectors) }
     requires equations_in_bounds { (Stores.row_need sizes.equations ≤ length rows.now)
         × T (every small_row (Stores.rows_of sizes.equations rows.now)) }
@@ -129,7 +121,7 @@ fn equations_fit(
     let equations = sizes.equations;
     let span = stores::validity::span(sizes);
     if vectors <= span {
-        return Answer::Fits(0);
+        return Ok(Finding::Fits(0));
     }
     let tests = vectors - span;
     let mut sums = [0i64; EQUATIONS * TESTS];
@@ -146,17 +138,15 @@ fn equations_fit(
         span,
     );
     let mut tested = 0;
-    let mut j = 0;
-    while j < tests {
+    for j in 0..tests {
         let n = index_from(sizes, first, j);
-        let answer = equations_at(&sums, &formed, equations, j, n, tested);
-        let Answer::Fits(k) = answer else {
-            return answer;
+        let finding = equations_at(&sums, &formed, equations, j, n, tested)?;
+        let Finding::Fits(k) = finding else {
+            return Ok(finding);
         };
         tested = k;
-        j += 1;
     }
-    Answer::Fits(tested)
+    Ok(Finding::Fits(tested))
 }
 
 // All blocks at n, up to l and down to t, lie in the record (SCOPE 12.22).
@@ -178,7 +168,7 @@ fn relation_at(
     vectors: usize,
     values: &[i64],
     before: usize,
-) -> Answer
+) -> Result<Finding, Refusal>
     requires t { T (Stores.sizes_right_of (the_sizes_of sizes)) × (nat_abs first ≤ Records.index_bound) × (vectors ≤ Records.most_vectors) }
     requires relation_length_in_bounds { (at + relation_length ≤ length relations.now) × (nat_abs (get_or relations.now at (pos 0)) ≤ bound)
         × T (every small (take row_length (drop (at + 1) relations.now))) }
@@ -191,20 +181,20 @@ fn relation_at(
     let t = sizes.t;
     let n = relations[at];
     if !inside(l, t, first, vectors, n) {
-        return Answer::Fits(before);
+        return Ok(Finding::Fits(before));
     }
     let span = stores::validity::span(sizes);
     let top = (n + l - first) as usize;
     let row = stores::rows::row_at(relations, at + 1);
     let mut sums = [0i64; 1];
     if sums::row_sums(&mut sums, 0, 1, row, n, values, top, m, span) == 0 {
-        return Answer::Refused(LIMIT_PASSED);
+        return Err(Refusal::ValuePassed);
     }
     let sum = sums[0];
     if sum != 0 {
-        return Answer::Relation(number, n, sum);
+        return Ok(Finding::Relation(number, n, sum));
     }
-    Answer::Fits(before + 1)
+    Ok(Finding::Fits(before + 1))
 }
 
 // The relations in their order (SCOPE 12.23).
@@ -216,7 +206,7 @@ fn relations_fit(
     vectors: usize,
     values: &[i64],
     before: usize,
-) -> Answer
+) -> Result<Finding, Refusal>
     requires t { T (Stores.sizes_right_of (the_sizes_of sizes)) × (nat_abs first ≤ Records.index_bound) × (vectors ≤ Records.most_vectors) }
     requires count_bound { (count ≤ 16) × (Stores.relation_need ≤ length relations.now)
         × T (every (Stores.relation_right_of (the_sizes_of sizes)) (Stores.relations_of count relations.now)) }
@@ -226,9 +216,8 @@ fn relations_fit(
         (Stores.relations_of count relations.now)) }
 {
     let mut tested = before;
-    let mut i = 0;
-    while i < count {
-        let answer = relation_at(
+    for i in 0..count {
+        let finding = relation_at(
             relations,
             i * RELATION,
             i + 1,
@@ -237,14 +226,13 @@ fn relations_fit(
             vectors,
             values,
             tested,
-        );
-        let Answer::Fits(k) = answer else {
-            return answer;
+        )?;
+        let Finding::Fits(k) = finding else {
+            return Ok(finding);
         };
         tested = k;
-        i += 1;
     }
-    Answer::Fits(tested)
+    Ok(Finding::Fits(tested))
 }
 
 // Does the system explain the record? The stores are only read (SCOPE 12.1). There are `vectors` vectors of m numbers each, that of index
@@ -257,19 +245,16 @@ pub fn check_record(
     first: i64,
     vectors: usize,
     values: &[i64],
-) -> Answer
+) -> Result<Finding, Refusal>
     ensures { answer_of result ≡ Records.record_call (the_sizes_of sizes) count first vectors
         rows.now relations.now values.now }
 {
-    let refusal = checks::check(rows, relations, sizes, count, first, vectors, values);
-    if refusal != 0 {
-        return Answer::Refused(refusal);
-    }
+    checks::check(rows, relations, sizes, count, first, vectors, values)?;
     let need = vectors * sizes.m;
     let record = &values[..need];
-    let answer = equations_fit(rows, sizes, first, vectors, record);
-    let Answer::Fits(tested) = answer else {
-        return answer;
+    let finding = equations_fit(rows, sizes, first, vectors, record)?;
+    let Finding::Fits(tested) = finding else {
+        return Ok(finding);
     };
     relations_fit(relations, count, sizes, first, vectors, record, tested)
 }

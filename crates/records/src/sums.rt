@@ -12,7 +12,6 @@ ghost use Rattle.records.specs.Successive.{NumbersThere, SumsNear, ZerosAt, Kept
 
 use crate::terms;
 use crate::terms::{COUNT, RIGHT_END, SHAPE, TERM};
-use evaluation::Formed;
 use stores::lengths::ENTRIES;
 
 // As many n are tested at most, one for each vector (SCOPE 12.11, 12.22).
@@ -43,11 +42,9 @@ fn with_constant(
     ensures { AddedAnywhere p.now values.now from m at count sums.old result sums.new }
 {
     let a = p[0];
-    let mut j = 0;
-    while j < count {
+    for j in 0..count {
         let place = at + j;
         sums[place] = plus(sums[place], a, values[from + j * m]);
-        j += 1;
     }
     count
 }
@@ -71,14 +68,12 @@ fn with_term(
     if p.len() == 1 {
         return with_constant(sums, at, count, p, values, from, m);
     }
-    let mut j = 0;
-    while j < count {
-        let Formed::Value(value) = evaluation::evaluate(p, n + j as i64) else {
+    for j in 0..count {
+        let Some(value) = evaluation::evaluate(p, n + j as i64) else {
             return j;
         };
         let place = at + j;
         sums[place] = plus(sums[place], value, values[from + j * m]);
-        j += 1;
     }
     count
 }
@@ -107,8 +102,7 @@ fn left_sums(
 {
     let count = shape[COUNT];
     let mut formed = tests;
-    let mut k = 0;
-    while k < count {
+    for k in 0..count {
         let place = k * TERM;
         let from = shape[place];
         let end = shape[place + 1];
@@ -122,7 +116,6 @@ fn left_sums(
             base + shape[place + 2],
             m,
         );
-        k += 1;
     }
     formed
 }

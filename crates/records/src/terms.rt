@@ -51,10 +51,8 @@ fn block_terms(
         (columns_added row.now at number m) }
 {
     let mut count = before;
-    let mut c = 0;
-    while c < m {
+    for c in 0..m {
         count = column_term(shape, row, at + c * COEFFICIENTS, number + c, count);
-        c += 1;
     }
     count
 }
@@ -65,10 +63,8 @@ fn left_terms(shape: &mut [usize], row: &[i64], m: usize, span: usize) -> usize
     ensures { BlocksListed m span row.now shape.new result (span + 1) }
 {
     let mut count = 0;
-    let mut b = 0;
-    while b <= span {
+    for b in 0..=span {
         count = block_terms(shape, row, b * BLOCK, m, (span - b) * m, count);
-        b += 1;
     }
     count
 }

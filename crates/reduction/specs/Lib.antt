@@ -1,3 +1,4 @@
+pub mod Answer
 pub mod Progress
 pub mod MultiplierSizes
 pub mod Dropping

@@ -2,17 +2,19 @@
 --
 -- Main definitions
 --   Storable x              a new row that is held by its numbers, or the number of the limit that it breaks
+--   numbers_in w            the numbers of a new row as the code gives it, or zeros
 --   saved store i n l       the store with the numbers l as row i, if n, the refusal, is 0
 --
 -- Main statements
 --   combined-storable, shifted-storable   the new rows of rules 4 and 6
---   full-worked             the working row of a new row is full
+--   full-worked, full-limited   the working row of a new row is full
 --   row_room                row i of equations rows has room in a store for equations rows
 --   saved-none              a refusal stores nothing
+--   saved-limited           the new row as the code gives it is stored as the definition's
 --   saved-outcome, saved-within, saved-kept   what storing the new row does
-use Rattle.std.specs.Prelude.{ℕ, zero, suc, ◌+◌, ◌*◌, ◌≤◌, ◌<◌, ◌≡◌, refl, Bool, true, false, cond, List, ℤ, pos, length, take, set}
+use Rattle.std.specs.Prelude.{ℕ, zero, suc, ◌+◌, ◌*◌, ◌≤◌, ◌<◌, ◌≡◌, refl, Bool, true, false, cond, List, ℤ, pos, length, take, set, replicate, Result, IfOk}
 use Rattle.std.proofs.Math.Nat.{suc-mul, mul-le-mul_right}
-use Rattle.std.proofs.Common.{le_of_eq, not-suc-le-zero, arith, sym, ◌∙◌, ap, lit<, length-take-le}
+use Rattle.std.proofs.Common.{Ok, Err, le_of_eq, not-suc-le-zero, arith, sym, ◌∙◌, ap, ap₂, subst, lit<, length-take-le}
 use Rattle.std.proofs.lemmas.List.{length-replicate}
 use Rattle.std.proofs.Math.Seq.{paste}
 use Rattle.algebra.specs.Polynomials.{Polynomial}
@@ -21,8 +23,11 @@ use Rattle.rules.specs.Rows.{Row, coefficients_of, contradicts, combine, primiti
 use Rattle.rules.specs.Elimination.{Limited, within, beyond, limit_coefficients, limit_degrees, consistent, going, put_row, put_limited_of}
 use Rattle.rules.specs.Stores.{row_of, rows_of, relations_of, row_need, Shaped}
 use Rattle.rules.specs.Layout.{entries-row_of, StoreRow-row_of}
-use Rattle.working_rows.specs.Working.{left_part, Full}
-use Rattle.working_rows.specs.Worked.{Held, refusal_of, numbers_of, worked_row}
+use Rattle.refusals.specs.declared.Refusal.{Refusal}
+use Rattle.refusals.specs.Refusals.{refusal_in, number_of, number-nonzero}
+use Rattle.working_rows.specs.declared.WorkingRow.{WorkingRow}
+use Rattle.working_rows.specs.Working.{left_part, numbers_held, Full}
+use Rattle.working_rows.specs.Worked.{Held, Shown, refusal_of, numbers_of, worked_row, numbers-worked}
 use Rattle.combinations.specs.Combination.{combined-held}
 use Rattle.working_rows.specs.Shifting.{shifted-held}
 use Rattle.reduction.specs.declared.step.Progress.{Progress}
@@ -93,7 +98,15 @@ full-worked (within r) h =
     side : (l : List ℤ) → length l ≡ row_length → length (row_of l).right ≡ coefficient_count
     side l e = (StoreRow-row_of l (le_of_eq (sym e))).2
 
+pub full-limited : (x : Limited) → Storable x → (w : Result WorkingRow Refusal) → Shown w x → IfOk w Full
+full-limited x h (Ok row) e = subst Full (sym e.1) (full-worked x h)
+full-limited x h (Err r) e = tt
+
 -- ---- the store afterwards
+
+abbrev pub numbers_in : Result WorkingRow Refusal → List ℤ
+numbers_in (Ok row) = numbers_held row
+numbers_in (Err r) = replicate row_length (pos 0)
 
 unfoldable pub saved : List ℤ → ℕ → ℕ → List ℤ → List ℤ
 saved store i zero numbers = paste store (i * row_length) numbers row_length
@@ -103,6 +116,13 @@ pub saved-none : (store : List ℤ) (i n : ℕ) (numbers : List ℤ) → (n ≡ 
 unfolding saved
 saved-none store i zero numbers h = absurd (h refl)
 saved-none store i (suc n) numbers h = refl
+
+pub saved-limited : (store : List ℤ) (i : ℕ) (x : Limited) (w : Result WorkingRow Refusal) → Shown w x
+    → saved store i (refusal_in w) (numbers_in w) ≡ saved store i (refusal_of x) (numbers_of x)
+saved-limited store i x (Ok row) e = ap₂ (saved store i) e.0 (ap numbers_held e.1 ∙ numbers-worked x)
+saved-limited store i x (Err r) e =
+    saved-none store i (number_of r) (replicate row_length (pos 0)) (number-nonzero r)
+    ∙ sym (saved-none store i (refusal_of x) (numbers_of x) (λ z. number-nonzero r (e.0 ∙ z)))
 
 -- Row i of equations rows in a store within ±C, in whose place a new row is put.
 module _ (equations i : ℕ) (store : List ℤ) (w : Within (row_need equations) store) (inside : i < equations) where

@@ -4,17 +4,22 @@
 --   state_of rows relations p     the state: the rows that are left, relations, the columns of the settled rows, shifts
 --   outcome_of refusal done s     going on, done or refused
 --   outcome_at rows relations o   the outcome that an answer of the code gives with the stores
+--   outcome_in rows relations r   the same of the result of a run
 --   most_steps                    the most steps of a run
 --   start_progress, dropped_progress, settled_progress, listed_progress, shifted_progress   the progress at the start, and after each rule
 --   Ready rows relations p       what a step asks of the stores and of the progress
 --   Freed n k store              the places of the rows k to n - 1 hold 0
+--   final_answer equations r     the answer of a whole run of so many rows, which a refusal leaves as it was before its first step
 --   Reached n .. most o x        what steps give with n rows at first: their outcome is x, the places of the rows that were
 --                                dropped hold 0, the rest of the stores is kept, at most `most` shifts are made, and the stores
 --                                are ready for a step
+--   Came view n .. most r x      the same of a result r: with a refusal the stores are those of the progress `left`
 --
 -- Main statements
+--   outcome-run                  the outcome of a run's result is that of its answer
 --   ready_with                   a step may be made with other stores and counts
-use Rattle.std.specs.Prelude.{ℕ, zero, suc, ◌+◌, ◌*◌, ◌-◌, ◌≤◌, ◌≡◌, Bool, true, false, List, [], ◌∷◌, ℤ, length, take, drop, set}
+use Rattle.std.specs.Prelude.{ℕ, zero, suc, ◌+◌, ◌*◌, ◌-◌, ◌≤◌, ◌≡◌, ◌≢◌, refl, Bool, true, false, leb, List, [], ◌∷◌, ℤ, length, take, drop, set, Result}
+use Rattle.std.proofs.Common.{Ok, Err}
 use Rattle.algebra.specs.Pigeonhole.{Distinct}
 use Rattle.rules.specs.Limits.{most_equations, column_count, block_count, row_length}
 use Rattle.rules.specs.Rows.{Row, Relation}
@@ -25,7 +30,10 @@ use Rattle.lists.specs.Padded.{pad_to}
 use Rattle.working_rows.specs.Found.{Columns}
 use Rattle.sides.specs.Lent.{Within, Listing, Kept}
 use Rattle.reduction.specs.declared.step.Progress.{Progress}
-use Rattle.reduction.specs.declared.step.Outcome as Answer
+use Rattle.refusals.specs.declared.Refusal.{Refusal}
+use Rattle.refusals.specs.Refusals.{number_of, number-nonzero}
+use Rattle.reduction.specs.Answer as Answer
+use Rattle.reduction.specs.Answer.{run_answer}
 
 abbrev pub state : List Row → List Relation → List ℕ → ℕ → State
 state rows relations order shifts = record { rows = rows; relations = relations; order = order; shifts = shifts }
@@ -47,6 +55,20 @@ answer_of refusal p = record { refusal = refusal; done = false; progress = p }
 abbrev pub outcome_at : List ℤ → List ℤ → Answer.Outcome → Outcome
 outcome_at rows relations o = outcome_of o.refusal o.done (state_of rows relations o.progress)
 
+abbrev pub outcome_in : List ℤ → List ℤ → Result Progress Refusal → Outcome
+outcome_in rows relations (Ok p) = outcome_of 0 (leb p.rows p.settled) (state_of rows relations p)
+outcome_in rows relations (Err r) = refused (number_of r)
+
+pub refused-is : (n : ℕ) (d : Bool) (s : State) → n ≢ 0 → refused n ≡ outcome_of n d s
+unfolding outcome_of
+refused-is zero d s h = absurd (h refl)
+refused-is (suc n) d s h = refl
+
+pub outcome-run : (rows relations : List ℤ) (r : Result Progress Refusal) (left : Progress)
+    → outcome_in rows relations r ≡ outcome_at rows relations (run_answer r left)
+outcome-run rows relations (Ok p) left = refl
+outcome-run rows relations (Err r) left = refused-is (number_of r) false (state_of rows relations left) (number-nonzero r)
+
 -- ---- how far a run has come
 
 -- The steps that are enough with six rows of five blocks, and so the most shifts.
@@ -55,6 +77,9 @@ most_steps = (most_equations + 1) * (most_equations + most_equations * block_cou
 
 abbrev pub start_progress : ℕ → ℕ → Progress
 start_progress equations count = record { rows = equations; settled = 0; order = 0 ∷ 0 ∷ 0 ∷ 0 ∷ []; count = count; shifts = 0 }
+
+abbrev pub final_answer : ℕ → Result Progress Refusal → Answer.Outcome
+final_answer equations r = run_answer r (start_progress equations 0)
 
 -- The row that is worked on is dropped.
 abbrev pub dropped_progress : Progress → Progress
@@ -116,3 +141,8 @@ pub record Reached (n : ℕ) (rows relations rows' relations' : List ℤ) (most 
   pub relations-kept : Kept relation_need relations relations'
   pub few-shifts : o.progress.shifts ≤ most
   pub ready : Ready rows' relations' o.progress
+
+pub record Came (view : Result Progress Refusal → Progress → Answer.Outcome) (n : ℕ) (rows relations rows' relations' : List ℤ) (most : ℕ)
+    (r : Result Progress Refusal) (x : Outcome) : Type 0 where
+  pub left : Progress
+  pub reached : Reached n rows relations rows' relations' most (view r left) x

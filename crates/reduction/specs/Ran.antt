@@ -12,20 +12,20 @@
 -- Main statements
 --   zeros-small                    zeros are within ±C
 --   ran-held                       a run without a refusal
---   ran-cleared                    a refused run, after the rows and the relations that it has listed are cleared
+--   ran-cleared                    a refused run, after the needed parts of both stores are cleared
+--   cleared-zeros                  how they are
 --   ran-kept                       a refused run on stores that were changed before it
 use Rattle.std.specs.Prelude.{ℕ, zero, suc, ◌+◌, ◌*◌, ◌-◌, ◌≤◌, ◌≡◌, ◌≢◌, Bool, List, ◌++◌, ℤ, pos, length, take, replicate}
-use Rattle.std.proofs.Common.{zero-le, le_refl, le_of_eq, zero-add, add-sub_of_le, arith, ◌∙◌, subst₂, append_assoc, length-append, length-drop, take-append-drop, take-add, take_all, drop-drop, length-take-le}
+use Rattle.std.proofs.Common.{zero-le, le_refl, le_of_eq, zero-add, arith, ◌∙◌, subst₂, length-append, length-drop, take-append-drop, take-add, take_all, length-take-le}
 use Rattle.std.proofs.Math.Path.{refl, sym, ap, ap₂, subst}
 use Rattle.std.proofs.Math.Bool.{true, false}
 use Rattle.std.proofs.Math.Dec.{T}
 use Rattle.std.proofs.Math.ListN.{drop}
-use Rattle.std.proofs.lemmas.List.{length-replicate, replicate-append-replicate}
+use Rattle.std.proofs.lemmas.List.{length-replicate}
 use Rattle.std.proofs.Math.Seq.{paste, take_at, drop_at}
-use Rattle.algebra.specs.Polynomials.{is_zero_of, is_zero-replicate, zero-list}
-use Rattle.rules.specs.Limits.{column_count, most_equations, row_length, relation_length, small}
+use Rattle.algebra.specs.Polynomials.{is_zero_of, is_zero-replicate}
+use Rattle.rules.specs.Limits.{column_count, most_equations, row_length, small}
 use Rattle.lists.specs.Tests.{every}
-use Rattle.lists.specs.Taken.{drop-take}
 use Rattle.rules.specs.Stores.{rows_of, relations_of, row_need, relation_need, row_store_for, relation_store_of}
 use Rattle.rules.specs.Elimination.{Side, State, Outcome, going, done, refused, run, enough, start}
 use Rattle.rules.specs.Layout.{row_store_of-rows_of, relation_store_of-relations_of, length-rows_of, length-relations_of}
@@ -35,8 +35,8 @@ use Rattle.lists.specs.Overwritten.{overwrite}
 use Rattle.sides.specs.Lent.{Within, Listing, Kept}
 use Rattle.sides.specs.StoreStates.{kept_then}
 use Rattle.reduction.specs.declared.step.Progress.{Progress}
-use Rattle.reduction.specs.declared.step.Outcome as Answer
-use Rattle.reduction.specs.Progress.{Ready, Freed, Reached, state_of, outcome_of, answer_of, most_steps, start_progress}
+use Rattle.reduction.specs.Answer as Answer
+use Rattle.reduction.specs.Progress.{Ready, Freed, Reached, state_of, outcome_of, refused-is, answer_of, most_steps, start_progress}
 use Rattle.reduction.specs.Dropping.{freed-none}
 use Rattle.reduction.specs.RunLaws.{start-ready}
 
@@ -215,34 +215,10 @@ module _ (need : ℕ) (store : List ℤ) where
       ap (λ l. zeros need ++ l)
       (ap (λ n. drop n after) size ∙ kept.same_rest ∙ ap (λ n. drop n store) (sym size))
 
-  cleared-zeros : paste store 0 (replicate need (pos 0)) need ≡ overwrite (zeros need) store
+  pub cleared-zeros : paste store 0 (replicate need (pos 0)) need ≡ overwrite (zeros need) store
   unfolding overwrite zeros
   cleared-zeros =
       ap₂ (λ z n. z ++ drop n store) (take_all need (zeros need) (le_of_eq size)) (zero-add need ∙ sym size)
-
--- Where the places past the used ones hold 0, all are cleared with those.
-clear-used : (used need : ℕ) (store : List ℤ) → used ≤ need → need ≤ length store → T (is_zero_of (drop used (take need store)))
-    → overwrite (zeros used) store ≡ overwrite (zeros need) store
-unfolding overwrite zeros
-clear-used used need store h g z =
-    ap (λ n. zeros used ++ drop n store) (length-zeros used)
-    ∙ ap (λ l. zeros used ++ l) (sym (take-append-drop rest (drop used store)) ∙ ap₂ (λ k l. k ++ l) unused (drop-drop rest used store))
-    ∙ sym (append_assoc (zeros used) (zeros rest) (drop (used + rest) store))
-    ∙ ap₂ (λ k n. k ++ drop n store) (replicate-append-replicate used rest (pos 0) ∙ ap zeros total) (total ∙ sym (length-zeros need))
-  where
-    rest : ℕ
-    rest = need - used
-
-    total : used + rest ≡ need
-    total = add-sub_of_le h
-
-    unused-size : length (drop used (take need store)) ≡ rest
-    unused-size = length-drop used (take need store) ∙ ap (λ n. n - used) (length-take-le need store g)
-
-    unused : take rest (drop used store) ≡ zeros rest
-    unused =
-        sym (drop-take used rest store) ∙ ap (λ n. drop used (take n store)) total ∙ zero-list (drop used (take need store)) z
-        ∙ ap zeros unused-size
 
 zeros-listing : (store : List ℤ) → relation_need ≤ length store → Listing 0 (overwrite (zeros relation_need) store)
 unfolding zeros
@@ -252,11 +228,6 @@ zeros-listing store h =
       within = zeros_within relation_need store h;
       unused = subst (λ l. T (is_zero_of l)) (sym (needed-zeros relation_need store)) (is_zero-replicate relation_need);
     }
-
-refused-is : (n : ℕ) (d : Bool) (s : State) → n ≢ 0 → refused n ≡ outcome_of n d s
-unfolding outcome_of
-refused-is zero d s h = absurd (h refl)
-refused-is (suc n) d s h = refl
 
 refused-outcome : {most equations : ℕ} {rows relations rows' relations' : List ℤ} {o : Answer.Outcome} {x : Outcome}
     → Reached equations rows relations rows' relations' most o x → o.refusal ≢ 0 → refused o.refusal ≡ x
@@ -295,38 +266,19 @@ ran-zeros most equations n rows relations h few rows_long relations-long =
     relations' : List ℤ
     relations' = overwrite (zeros relation_need) relations
 
--- The rows and the relations that are listed when the run is refused are cleared.
-pub ran-cleared : {most equations : ℕ} {rows relations rows₁ relations₁ rows₂ relations₂ : List ℤ} {o o' : Answer.Outcome} {x : Outcome}
+-- The needed parts of both stores are cleared.
+pub ran-cleared : {most equations : ℕ} {rows relations rows₁ relations₁ rows₂ relations₂ : List ℤ} {o : Answer.Outcome} {x : Outcome}
     → equations ≤ most_equations → row_need equations ≤ length rows
     → Reached equations rows relations rows₁ relations₁ most o x → o.refusal ≢ 0
-    → rows₂ ≡ paste rows₁ 0 (replicate (row_need equations) (pos 0)) (row_need equations)
-    → let used = o.progress.count * relation_length in relations₂ ≡ paste relations₁ 0 (replicate used (pos 0)) used
-    → o' ≡ answer_of o.refusal (start_progress equations 0) → RanWithin most equations rows relations rows₂ relations₂ o' x
-ran-cleared {most} {equations} {rows} {relations} {rows₁} {relations₁} {rows₂} {relations₂} {o} {o'} {x} few room r n e f g =
-    subst₂ (λ a b. RanWithin most equations rows relations a b o' x) (sym rows-zero) (sym relations-zero)
-    (subst₂ (RanWithin most equations rows relations (overwrite (zeros (row_need equations)) rows)
-    (overwrite (zeros relation_need) relations)) (sym g)
-    (refused-outcome r n)
+    → rows₂ ≡ overwrite (zeros (row_need equations)) rows₁ → relations₂ ≡ overwrite (zeros relation_need) relations₁
+    → RanWithin most equations rows relations rows₂ relations₂ (answer_of o.refusal (start_progress equations 0)) x
+ran-cleared {most} {equations} {rows} {relations} {rows₁} {relations₁} {rows₂} {relations₂} {o} {x} few room r n e f =
+    subst₂ (λ a b. RanWithin most equations rows relations a b (answer_of o.refusal (start_progress equations 0)) x)
+    (sym (e ∙ zeros-over (row_need equations) rows r.rows-kept)) (sym (f ∙ zeros-over relation_need relations r.relations-kept))
+    (subst (RanWithin most equations rows relations (overwrite (zeros (row_need equations)) rows)
+    (overwrite (zeros relation_need) relations) (answer_of o.refusal (start_progress equations 0))) (refused-outcome r n)
     (ran-zeros most equations o.refusal rows relations n few room
-    (long r.relations-kept listing.within.long)))
-  where
-    long : {need : ℕ} {store after : List ℤ} → Kept need store after → need ≤ length after → need ≤ length store
-    long {need} kept h = subst (λ n. need ≤ n) kept.same_length h
-
-    rows-zero : rows₂ ≡ overwrite (zeros (row_need equations)) rows
-    rows-zero = e ∙ cleared-zeros (row_need equations) rows₁ ∙ zeros-over (row_need equations) rows r.rows-kept
-
-    listing : Listing o.progress.count relations₁
-    listing = r.ready.listing
-
-    used : ℕ
-    used = o.progress.count * relation_length
-
-    relations-zero : relations₂ ≡ overwrite (zeros relation_need) relations
-    relations-zero =
-        f ∙ cleared-zeros used relations₁
-        ∙ clear-used used relation_need relations₁ (omega (arith, listing.few)) listing.within.long listing.unused
-        ∙ zeros-over relation_need relations r.relations-kept
+    (subst (λ k. relation_need ≤ k) r.relations-kept.same_length r.ready.listing.within.long)))
 
 -- The stores were changed before the run.
 pub ran-kept : {most equations : ℕ} {rows relations rows₁ relations₁ rows₂ relations₂ : List ℤ} {o : Answer.Outcome} {x : Outcome}

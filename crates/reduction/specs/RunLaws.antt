@@ -8,9 +8,9 @@
 -- Main statements
 --   enough-rows            the number of steps that are enough for equations rows in a store
 --   start-ready            stores that a run asks for are ready for its first step
---   run-starts, run-goes, run-stops   the turns of the loop
+--   run-starts, run-goes, run-stops, run-refused   the turns of the loop
 use Prim.Native.Nat.{ℕ, zero, suc, ◌+◌, ◌*◌, ◌-◌, ◌≤◌, ◌<◌, zero-le}
-use Rattle.std.proofs.Common.{mul-le-mul, not-suc-le-zero, le_refl, add-one, ◌∙◌, ap₂, inl, inr, lit<}
+use Rattle.std.proofs.Common.{mul-le-mul, le_refl, add-one, ◌∙◌, ap₂, inl, inr, lit<}
 use native.Mathlib.Omega.{arith}
 use Rattle.std.specs.Prelude.{◌≡◌, refl, ◌≢◌, ◌⊎◌, Bool, List, leb, ℤ, take}
 use Rattle.std.proofs.Math.Path.{sym, ap}
@@ -25,7 +25,7 @@ use Rattle.lists.specs.Padded.{pad_to}
 use Rattle.stores.specs.Flat.{length-blocks}
 use Rattle.working_rows.specs.Found.{Columns}
 use Rattle.reduction.specs.declared.step.Progress.{Progress}
-use Rattle.reduction.specs.declared.step.Outcome as Answer
+use Rattle.reduction.specs.Answer as Answer
 use Rattle.sides.specs.Lent.{Within, Listing}
 use Rattle.reduction.specs.Progress.{Ready, Reached, state_of, outcome_of, outcome_at, answer_of, most_steps, start_progress}
 use Rattle.reduction.specs.Dropping.{freed-none, freed-then, kept_more}
@@ -79,14 +79,10 @@ module _ (side : Side) (s : State) where
   run-finished zero e = ap (λ t. cond t (done s) (going s)) e
   run-finished (suc k) e = ap (λ t. cond t (done s) (and_then (step side s) (run side k))) e
 
-  run-steps : (k : ℕ) → finished s ≡ false → 0 < k → run side k s ≡ and_then (step side s) (run side (k - 1))
+  run-steps : (k rest : ℕ) → finished s ≡ false → k ≡ rest + 1 → run side k s ≡ and_then (step side s) (run side rest)
   unfolding run
-  run-steps zero e h = absurd (not-suc-le-zero h)
-  run-steps (suc k) e h =
-      ap (λ t. cond t (done s) (and_then (step side s) (run side k))) e ∙ ap (λ n. and_then (step side s) (run side n)) (before k)
-    where
-      before : (k : ℕ) → k ≡ suc k - 1
-      before k = omega arith
+  run-steps k rest e h =
+      ap (λ n. run side n s) (h ∙ add-one rest) ∙ ap (λ t. cond t (done s) (and_then (step side s) (run side rest))) e
 
   run-no-further : (t : Bool) → finished s ≡ t → run side 0 s ≡ outcome_of 0 t s
   unfolding run outcome_of
@@ -160,11 +156,28 @@ module _ {side : Side} {equations : ℕ} {rows relations rows' relations' : List
         ready = r.reached.ready;
       }
 
-  pub run-goes : {rows'' relations'' : List ℤ} {o : Answer.Outcome} → 0 < left → n ≡ 0 → p.settled < p.rows
-      → Reached p.rows rows' relations' rows'' relations'' (p.shifts + 1) o (step side s) → o.done ≡ false
-      → Running side equations rows relations rows'' relations'' o.refusal o.progress (left - 1) x
+  refused-whole : (k : ℕ) → and_then (outcome_of k false s) (run side left) ≡ x → k ≢ 0 → outcome_of k false s ≡ x
   unfolding and_then outcome_of
-  run-goes {rows''} {relations''} {o} b e f h g =
+  refused-whole (suc k) e h = e
+  refused-whole zero e h = absurd (h refl)
+
+  pub run-refused : n ≢ 0 → Reached equations rows relations rows' relations' most_steps (answer_of n p) x
+  run-refused h =
+      record {
+        outcome = refused-whole n r.whole h;
+        fewer = r.reached.fewer;
+        freed = r.reached.freed;
+        rows-kept = r.reached.rows-kept;
+        relations-kept = r.reached.relations-kept;
+        few-shifts = omega (arith, r.reached.few-shifts);
+        ready = r.reached.ready;
+      }
+
+  pub run-goes : {rows'' relations'' : List ℤ} {o : Answer.Outcome} {rest : ℕ} → left ≡ rest + 1 → n ≡ 0 → p.settled < p.rows
+      → Reached p.rows rows' relations' rows'' relations'' (p.shifts + 1) o (step side s) → o.done ≡ false
+      → Running side equations rows relations rows'' relations'' o.refusal o.progress rest x
+  unfolding and_then outcome_of
+  run-goes {rows''} {relations''} {o} {rest} b e f h g =
       record {
         few = omega (arith, r.few);
         reached =
@@ -180,8 +193,8 @@ module _ {side : Side} {equations : ℕ} {rows relations rows' relations' : List
               ready = h.ready;
             };
         whole =
-            ap (λ y. and_then y (run side (left - 1)))
+            ap (λ y. and_then y (run side rest))
             (ap (λ d. outcome_of o.refusal d (state_of rows'' relations'' o.progress)) (sym g) ∙ h.outcome)
-            ∙ sym (run-steps side s left (finished-here ∙ lt-leb p.rows p.settled f) b)
+            ∙ sym (run-steps side s left rest (finished-here ∙ lt-leb p.rows p.settled f) b)
             ∙ sym (ap (λ k. and_then (outcome_of k false s) (run side left)) e) ∙ r.whole;
       }

@@ -29,7 +29,7 @@ use Rattle.rules.specs.Elimination.{limit_coefficients, count_shift, shift_step_
 use Rattle.rules.specs.Layout.{length-relations_of}
 use Rattle.working_rows.specs.Worked.{refusal_of, numbers_of}
 use Rattle.reduction.specs.declared.step.Progress.{Progress}
-use Rattle.reduction.specs.declared.step.Outcome as Answer
+use Rattle.reduction.specs.Answer as Answer
 use Rattle.sides.specs.Lent.{Within, Kept}
 use Rattle.reduction.specs.Progress.{Ready, Reached, state, state_of, outcome_of, answer_of}
 use Rattle.reduction.specs.Progress.{dropped_progress, listed_progress, shifted_progress, ready_with}

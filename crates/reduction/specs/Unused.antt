@@ -32,7 +32,7 @@ use Rattle.theory.specs.Steps.{current, exchanged, multipliers_for, limit_coeffi
 use Rattle.theory.specs.Steps.{length-narrow_first, narrow_first-all, going≢refused, going-injective}
 use Rattle.theory.specs.Triangular.{combined-zero}
 use Rattle.reduction.specs.declared.step.Progress.{Progress}
-use Rattle.reduction.specs.declared.step.Outcome as Answer
+use Rattle.reduction.specs.Answer as Answer
 use Rattle.reduction.specs.Progress.{Ready, Reached, state_of, outcome_of}
 use Rattle.reduction.specs.StoreExchange.{numbers_at, row-of}
 

@@ -10,9 +10,6 @@ pub fn move_up(store: &mut [i64], at: usize, count: usize)
     requires { at + row_length + count ≤ length store.old }
     ensures { store.new ≡ paste store.old at (drop (at + row_length) store.old) count }
 {
-    let mut k = 0;
-    while k < count {
-        store[at + k] = store[at + ROW + k];
-        k += 1;
-    }
+    let from = at + ROW;
+    store.copy_within(from..from + count, at);
 }

@@ -1,15 +1,19 @@
 // The whole run over checked stores: at most `enough` steps, and what is left of a run that is refused.
-ghost use Rattle.std.specs.Prelude.{◌≡◌, ◌+◌, ◌*◌, ◌≤◌, T};
+ghost use Rattle.std.specs.Prelude.{◌≡◌, ◌+◌, ◌*◌, ◌≤◌, T, length};
+ghost use Rattle.lists.specs.Overwritten.{overwrite};
 ghost use Rattle.lists.specs.Tests.{every};
+ghost use Rattle.rules.specs.Calls.{zeros};
 ghost use Rattle.rules.specs.Limits.{column_count, most_equations, most_span};
-ghost use Rattle.rules.specs.Stores.{row_need, rows_of, unused_zero_of};
+ghost use Rattle.rules.specs.Stores.{row_need, relation_need, rows_of, unused_zero_of};
 ghost use Rattle.sides.specs.Lent.{Within, Listing, side_of};
-ghost use Rattle.reduction.specs.Progress.{most_steps, Reached, start_progress};
+ghost use Rattle.reduction.specs.Answer.{run_answer};
+ghost use Rattle.reduction.specs.Progress.{most_steps, Came, Reached, final_answer};
 ghost use Rattle.reduction.specs.Ran.{run_of, answer_for_of, rows_after_of, relations_after_of};
 
-use crate::step::{Outcome, Progress};
+use crate::step::Progress;
+use refusals::Refusal;
 use sides::Side;
-use stores::lengths::{COLUMNS, RELATION, ROW};
+use stores::lengths::{RELATIONS, ROW};
 
 // A bound on the steps that no run reaches (SCOPE 3.24): a settling or a dropping and five shifts for each row, and every settled row
 // before each of those.
@@ -20,19 +24,6 @@ pub fn enough(equations: usize) -> usize
     (equations + 1) * (equations + equations * 5)
 }
 
-// No row is settled at the start (SCOPE 2.2).
-pub fn start(equations: usize, count: usize) -> Progress
-    ensures { result ≡ start_progress equations count }
-{
-    Progress {
-        rows: equations,
-        settled: 0,
-        order: [0; COLUMNS],
-        count,
-        shifts: 0,
-    }
-}
-
 // Step after step, up to a refusal, or as long as a row is not settled; the run is done if all that are left are.
 fn steps(
     rows: &mut [i64],
@@ -41,29 +32,34 @@ fn steps(
     side: Side,
     count: usize,
     span: usize,
-) -> Outcome
+) -> Result<Progress, Refusal>
     requires equations_le_most_equations { (equations ≤ most_equations) × Within (row_need equations) rows.old × Listing count relations.old }
     requires span_le_most_span { (span ≤ most_span) × T (every (unused_zero_of column_count span) (rows_of equations rows.old)) }
-    ensures { Reached equations rows.old relations.old rows.new relations.new most_steps result
+    ensures { Came run_answer equations rows.old relations.old rows.new relations.new most_steps result
         (run_of (side_of side) equations count rows.old relations.old) }
 {
-    let mut p = start(equations, count);
-    let mut refusal: u8 = 0;
-    let mut left = enough(equations);
-    while 0 < left && refusal == 0 && p.settled < p.rows {
-        let o = crate::step::step(rows, relations, side, span, p);
-        refusal = o.refusal;
-        p = o.progress;
-        left -= 1;
+    let mut p = Progress::start(equations, count);
+    let most = enough(equations);
+    for _ in 0..most {
+        if p.is_done() {
+            return Ok(p);
+        }
+        p = crate::step::step(rows, relations, side, span, p)?;
     }
-    Outcome {
-        refusal,
-        done: p.rows <= p.settled,
-        progress: p,
-    }
+    Ok(p)
 }
 
-// A refused run leaves zeros (SCOPE 6.33). The relation places past those that are listed hold 0 already.
+// A refused run leaves zeros in the rows and in the whole relation store (SCOPE 6.33).
+pub fn clear(rows: &mut [i64], relations: &mut [i64], equations: usize)
+    requires { (equations ≤ most_equations) × (row_need equations ≤ length rows.old) × (relation_need ≤ length relations.old) }
+    ensures rows_after { rows.new ≡ overwrite (zeros (row_need equations)) rows.old }
+    ensures relations_after { relations.new ≡ overwrite (zeros relation_need) relations.old }
+{
+    stores::rows::clear(rows, 0, equations * ROW);
+    stores::rows::clear(relations, 0, RELATIONS);
+}
+
+// A refused run leaves zeros (SCOPE 6.33).
 pub fn run(
     rows: &mut [i64],
     relations: &mut [i64],
@@ -71,25 +67,22 @@ pub fn run(
     side: Side,
     count: usize,
     span: usize,
-) -> Outcome
+) -> Result<Progress, Refusal>
     requires equations_le_most_equations { (equations ≤ most_equations) × Within (row_need equations) rows.old × Listing count relations.old }
     requires span_le_most_span { (span ≤ most_span) × T (every (unused_zero_of column_count span) (rows_of equations rows.old)) }
-    ensures value { result ≡ answer_for_of equations (run_of (side_of side) equations count rows.old relations.old) }
+    ensures value { final_answer equations result ≡ answer_for_of equations (run_of (side_of side) equations count rows.old relations.old) }
     ensures rows_after { rows.new
         ≡ rows_after_of equations (run_of (side_of side) equations count rows.old relations.old) rows.old }
     ensures relations_after { relations.new
         ≡ relations_after_of (run_of (side_of side) equations count rows.old relations.old) relations.old }
-    ensures reached { Reached equations rows.old relations.old rows.new relations.new most_steps result
+    ensures reached { Reached equations rows.old relations.old rows.new relations.new most_steps (final_answer equations result)
         (run_of (side_of side) equations count rows.old relations.old) }
 {
-    let o = steps(rows, relations, equations, side, count, span);
-    let refusal = o.refusal;
-    if refusal == 0 {
-        return o;
+    match steps(rows, relations, equations, side, count, span) {
+        Ok(p) => Ok(p),
+        Err(refusal) => {
+            clear(rows, relations, equations);
+            Err(refusal)
+        }
     }
-    let p = o.progress;
-    let listed = p.count;
-    stores::rows::clear(rows, 0, equations * ROW);
-    stores::rows::clear(relations, 0, listed * RELATION);
-    crate::step::answer(refusal, start(equations, 0))
 }

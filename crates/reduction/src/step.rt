@@ -1,5 +1,5 @@
 // One step of the elimination over the lent stores: what `step` of `rules` says of the state that the stores hold.
-ghost use Rattle.std.specs.Prelude.{◌≡◌, false, not, ◌++◌, ◌+◌, ◌*◌, ◌-◌, ◌^◌, ◌≤◌, ◌<◌, T, length};
+ghost use Rattle.std.specs.Prelude.{◌≡◌, not, ◌++◌, ◌+◌, ◌*◌, ◌-◌, ◌^◌, ◌≤◌, ◌<◌, leb, T, length, IfOk};
 ghost use Rattle.algebra.specs.Polynomials.{is_zero_of};
 ghost use Rattle.rules.specs.Limits.{coefficient_count, column_count, most_equations, most_span, entries_length, row_length, small};
 ghost use Rattle.rules.specs.Rows.{entry};
@@ -8,11 +8,13 @@ ghost use Rattle.lists.specs.Tests.{every};
 ghost use Rattle.rules.specs.Elimination as Elimination;
 ghost use Rattle.rules.specs.Stores.{row_of};
 ghost use Rattle.multiplicities.specs.Counts.{listed_with};
-ghost use Rattle.working_rows.specs.Working.{numbers_held, Full};
+ghost use Rattle.refusals.specs.Refusals.{refusal_in};
+ghost use Rattle.working_rows.specs.Working.{Full};
 ghost use Rattle.working_rows.specs.Worked.{refusal_of, numbers_of};
 ghost use Rattle.sides.specs.Lent.{side_of};
-ghost use Rattle.reduction.specs.Progress.{Ready, Reached, state_of, answer_of, dropped_progress, settled_progress, shifted_progress};
-ghost use Rattle.reduction.specs.NewRows.{saved};
+ghost use Rattle.reduction.specs.Answer.{step_answer};
+ghost use Rattle.reduction.specs.Progress.{Ready, Came, state_of, answer_of, start_progress, dropped_progress, settled_progress, shifted_progress};
+ghost use Rattle.reduction.specs.NewRows.{saved, numbers_in};
 ghost use Rattle.reduction.specs.Dropping.{dropped};
 ghost use Rattle.reduction.specs.StoreExchange.{numbers_at, narrowed};
 ghost use Rattle.reduction.specs.StepLaws.{met_entries, multipliers_of, shifted_row_of};
@@ -20,15 +22,16 @@ ghost use Rattle.reduction.specs.Unused.{Unused};
 
 use multiplicities::RootsWith;
 use polynomials::lengths::COEFFICIENTS;
+use refusals::Refusal;
 use sides::Side;
 use stores::lengths::{BLOCKS, COLUMNS, ROW};
+use working_rows::WorkingRow;
 
 // The largest D (SCOPE 1.2).
 pub const SPAN: usize = BLOCKS - 1;
 
 // How far a run has come: the rows that are left, the settled ones with their columns, counted from 0, the relations listed and the
 // shifts made.
-#[derive(Drop)]
 #[derive(Clone, Copy)]
 pub struct Progress {
     pub rows: usize,
@@ -38,23 +41,39 @@ pub struct Progress {
     pub shifts: usize,
 }
 
-// What a step or a run comes to: a refusal, or the end, or the progress with which the run goes on.
-#[derive(Drop)]
-#[derive(Clone, Copy)]
-pub struct Outcome {
-    pub refusal: u8,
-    pub done: bool,
-    pub progress: Progress,
-}
+impl Progress {
+    // No row is settled at the start (SCOPE 2.2).
+    pub fn start(equations: usize, count: usize) -> Progress
+        ensures { result ≡ start_progress equations count }
+    {
+        Progress {
+            rows: equations,
+            settled: 0,
+            order: [0; COLUMNS],
+            count,
+            shifts: 0,
+        }
+    }
 
-// A refusal, or 0: the run goes on.
-pub fn answer(refusal: u8, p: Progress) -> Outcome
-    ensures { result ≡ answer_of refusal p }
-{
-    Outcome {
-        refusal,
-        done: false,
-        progress: p,
+    // Are all rows that are left settled?
+    pub fn is_done(self) -> bool
+        ensures { result ≡ leb self.rows self.settled }
+    {
+        self.rows <= self.settled
+    }
+
+    // Rule 5: the row in turn is settled at c, the lowest column with a nonzero leading entry (SCOPE 2.51).
+    fn with_settled(self, c: usize) -> Progress
+        requires { (self.settled < column_count) × (length self.order ≡ column_count) }
+        ensures { result ≡ settled_progress self c }
+    {
+        let mut order = self.order;
+        order[self.settled] = c;
+        Progress {
+            settled: self.settled + 1,
+            order,
+            ..self
+        }
     }
 }
 
@@ -62,20 +81,16 @@ pub fn answer(refusal: u8, p: Progress) -> Outcome
 pub fn put_limited(
     rows: &mut [i64],
     i: usize,
-    worked: working_rows::limits::Worked,
+    worked: Result<WorkingRow, Refusal>,
     next: Progress,
-) -> Outcome
-    requires { (i * row_length + row_length ≤ length rows.old) × Full worked.row }
-    ensures rows_after { rows.new ≡ saved rows.old i worked.refusal (numbers_held worked.row) }
-    ensures value { result ≡ answer_of worked.refusal next }
+) -> Result<Progress, Refusal>
+    requires { (i * row_length + row_length ≤ length rows.old) × IfOk worked Full }
+    ensures rows_after { rows.new ≡ saved rows.old i (refusal_in worked) (numbers_in worked) }
+    ensures value { step_answer result next ≡ answer_of (refusal_in worked) next }
 {
-    let refusal = worked.refusal;
-    if refusal != 0 {
-        return answer(refusal, next);
-    }
-    let row = worked.row;
+    let row = worked?;
     working_rows::stored::save(rows, i * ROW, row);
-    answer(0, next)
+    Ok(next)
 }
 
 // The multipliers of rule 2, from the entries of both rows in column c, put into g and h: the roots of g, each with how often it occurs
@@ -100,64 +115,36 @@ pub fn put_multipliers_at(
     common_roots::put_multipliers(g, h, &pivot[from..to], &target[from..to])
 }
 
-// Rule 5: the row in turn is settled at c, the lowest column with a nonzero leading entry (SCOPE 2.51).
-fn settled(c: usize, p: Progress) -> Progress
-    requires { (p.settled < column_count) × (length p.order ≡ column_count) }
-    ensures { result ≡ settled_progress p c }
-{
-    let mut order = p.order;
-    let w = p.settled;
-    order[w] = c;
-    Progress {
-        rows: p.rows,
-        settled: w + 1,
-        order,
-        count: p.count,
-        shifts: p.shifts,
-    }
-}
-
 // Rule 6: the blocks move up by one, with n + 1 for n, and the shift is counted (SCOPE 2.61, 2.63, 2.65).
-fn shift_step(rows: &mut [i64], width: usize, p: Progress) -> Outcome
+fn shift_step(rows: &mut [i64], width: usize, p: Progress) -> Result<Progress, Refusal>
     requires { (p.settled * row_length + row_length ≤ length rows.old) × T (every small (numbers_at rows.old p.settled))
         × (width ≡ Rows.width (row_of (numbers_at rows.old p.settled))) × (p.shifts < 2 ^ 32) }
     ensures rows_after { rows.new
         ≡ saved rows.old p.settled (refusal_of (shifted_row_of (numbers_at rows.old p.settled)))
         (numbers_of (shifted_row_of (numbers_at rows.old p.settled))) }
-    ensures value { result ≡ answer_of (refusal_of (shifted_row_of (numbers_at rows.old p.settled))) (shifted_progress p) }
+    ensures value { step_answer result (shifted_progress p)
+        ≡ answer_of (refusal_of (shifted_row_of (numbers_at rows.old p.settled))) (shifted_progress p) }
 {
     let i = p.settled;
-    let order = p.order;
     let next = Progress {
-        rows: p.rows,
-        settled: i,
-        order,
-        count: p.count,
         shifts: p.shifts + 1,
+        ..p
     };
     let row = working_rows::stored::load(rows, i * ROW, width);
     put_limited(rows, i, working_rows::shifting::shifted(row), next)
 }
 
 // Rule 1: the row that is worked on is dropped; the later ones move up, and the place of the last one holds 0 (SCOPE 2.11).
-fn drop_step(rows: &mut [i64], p: Progress) -> Outcome
+fn drop_step(rows: &mut [i64], p: Progress) -> Progress
     requires { (p.rows ≤ most_equations) × (p.settled < p.rows) × (p.rows * row_length ≤ length rows.old) }
     ensures rows_after { rows.new ≡ dropped rows.old p.settled (p.rows - 1) }
-    ensures value { result ≡ answer_of 0 (dropped_progress p) }
+    ensures value { result ≡ dropped_progress p }
 {
     let i = p.settled;
-    let order = p.order;
     let last = p.rows - 1;
     crate::dropping::move_up(rows, i * ROW, (last - i) * ROW);
     stores::rows::clear(rows, last * ROW, ROW);
-    let next = Progress {
-        rows: last,
-        settled: i,
-        order,
-        count: p.count,
-        shifts: p.shifts,
-    };
-    answer(0, next)
+    Progress { rows: last, ..p }
 }
 
 // Rules 3 and 4 for the row that is worked on and settled row j, whose widths are known (SCOPE 2.31, 2.34, 2.41, 2.42, 2.47).
@@ -169,19 +156,17 @@ fn combine_step(
     width: usize,
     other: usize,
     p: Progress,
-) -> Outcome
+) -> Result<Progress, Refusal>
     requires ready { Ready rows.old relations.old p × (p.settled < p.rows) × (j < p.settled) }
     requires t { T (not (is_zero_of (met_entries rows.old p j))) }
     requires width_value { (width ≡ Rows.width (row_of (numbers_at rows.old p.settled)))
         × (other ≡ Rows.width (row_of (numbers_at rows.old j))) }
-    ensures reached { Reached p.rows rows.old relations.old rows.new relations.new (p.shifts + 1) result
+    ensures { Came step_answer p.rows rows.old relations.old rows.new relations.new (p.shifts + 1) result
         (Elimination.combine_step_of (side_of side) (state_of rows.old relations.old p) p.settled j
         (Elimination.multipliers_at (state_of rows.old relations.old p) p.settled j)) }
-    ensures done_value { result.done ≡ false }
 {
     let i = p.settled;
-    let order = p.order;
-    let c = order[j];
+    let c = p.order[j];
     let target = stores::rows::row_at(rows, i * ROW);
     let pivot = stores::rows::row_at(rows, j * ROW);
     let mut g = [0; COEFFICIENTS];
@@ -189,19 +174,12 @@ fn combine_step(
     let found = put_multipliers_at(&mut g, &mut h, target, pivot, c);
     let count = p.count + found.count;
     if 16 < count {
-        return answer(9, p);
+        return Err(Refusal::TooManyRelations);
     }
     sides::listing::list_roots(relations, p.count, found, side, target);
     let row = working_rows::stored::load(rows, i * ROW, width);
     let worked = combinations::combined(&g[..], &h[..], row, pivot, other);
-    let next = Progress {
-        rows: p.rows,
-        settled: i,
-        order,
-        count,
-        shifts: p.shifts,
-    };
-    put_limited(rows, i, worked, next)
+    put_limited(rows, i, worked, Progress { count, ..p })
 }
 
 // Rule 2 for the row that is worked on and settled row j: if the settled row is the wider, the two change places first (SCOPE 2.22).
@@ -213,17 +191,16 @@ fn eliminate_step(
     width: usize,
     span: usize,
     p: Progress,
-) -> Outcome
+) -> Result<Progress, Refusal>
     requires ready { Ready rows.old relations.old p × (p.settled < p.rows) × (j < p.settled)
         × (width ≡ Rows.width (row_of (numbers_at rows.old p.settled))) }
     requires t { T (not (is_zero_of (met_entries (narrowed rows.old p.settled j) p j))) × (span ≤ most_span)
         × Unused column_count span (state_of rows.old relations.old p) }
-    ensures reached { Reached p.rows rows.old relations.old rows.new relations.new (p.shifts + 1) result
+    ensures { Came step_answer p.rows rows.old relations.old rows.new relations.new (p.shifts + 1) result
         (Elimination.combine_step_of (side_of side)
         (state_of (narrowed rows.old p.settled j) relations.old p) p.settled j
         (Elimination.multipliers_at
         (state_of (narrowed rows.old p.settled j) relations.old p) p.settled j)) }
-    ensures done_value { result.done ≡ false }
 {
     let other = crate::looking::width_at(rows, j, span);
     if width < other {
@@ -241,29 +218,27 @@ pub fn step(
     side: Side,
     span: usize,
     p: Progress,
-) -> Outcome
+) -> Result<Progress, Refusal>
     requires ready { Ready rows.old relations.old p × (p.settled < p.rows) × (p.shifts < 2 ^ 32) }
     requires span_le_most_span { (span ≤ most_span) × Unused column_count span (state_of rows.old relations.old p) }
-    ensures reached { Reached p.rows rows.old relations.old rows.new relations.new (p.shifts + 1) result
+    ensures { Came step_answer p.rows rows.old relations.old rows.new relations.new (p.shifts + 1) result
         (Elimination.step (side_of side) (state_of rows.old relations.old p)) }
-    ensures done_value { result.done ≡ false }
 {
     let i = p.settled;
     let width = crate::looking::width_at(rows, i, span);
     if width == 0 {
         if crate::looking::side_zero_at(rows, i) {
-            return drop_step(rows, p);
+            return Ok(drop_step(rows, p));
         }
-        return answer(10, p);
+        return Err(Refusal::Contradiction);
     }
-    let order = p.order;
-    let j = crate::looking::met_at(rows, i, order, i);
+    let j = crate::looking::met_at(rows, i, p.order, i);
     if j < i {
         return eliminate_step(rows, relations, side, j, width, span, p);
     }
     let c = crate::looking::column_at(rows, i);
     if c < COLUMNS {
-        answer(0, settled(c, p))
+        Ok(p.with_settled(c))
     } else {
         shift_step(rows, width, p)
     }

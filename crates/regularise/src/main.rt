@@ -50,42 +50,30 @@ fn put(rt: &(impl Print + Eprint), text: &[u8]) -> bool {
     }
 }
 
-// How the batch stands, and whether a read or a write has failed.
-#[derive(Drop)]
-struct Passed {
-    stream: batches::Stream,
-    failed: bool,
-}
-
-// A piece of the input, handed over in as many calls as its answers need.
+// A piece of the input, handed over in as many calls as its answers need: how the batch stands then, or none where a write fails.
 fn pass(
     rt: &(impl Print + Eprint),
     start: batches::Stream,
     held: &mut [u8],
     input: &[u8],
     output: &mut [u8],
-) -> Passed
+) -> Option<batches::Stream>
     requires { (stream_check start held.old ≡ 0) × (answer_room ≤ length output.old) }
-    ensures { stream_check result.stream held.new ≡ 0 }
+    ensures { IfSome result (λ stream. stream_check stream held.new ≡ 0) }
 {
     let mut stream = start;
     let mut at = 0;
+    // No count: a call takes as many bytes as its answers have room for.
     while at < input.len() {
         let passed = batches::piece(stream, held, &input[at..], output);
         stream = passed.stream;
         at += passed.taken;
         let length = passed.written;
         if !put(rt, &output[..length]) {
-            return Passed {
-                stream,
-                failed: true,
-            };
+            return None;
         }
     }
-    Passed {
-        stream,
-        failed: false,
-    }
+    Some(stream)
 }
 
 // Nothing more is answered after a broken batch (SCOPE 5.21).
@@ -96,42 +84,36 @@ fn over(stage: batches::Stage) -> bool {
     }
 }
 
-// A proved loop has to end, and nothing says that the input does: its turns are more than any run uses up.
+// All of the input: how the batch stands at its end, or none where a read or a write fails. A proved loop has to end, and nothing
+// says that the input does: its turns are more than any run uses up.
 fn pass_all(
     rt: &(impl Input + Print + Eprint),
     held: &mut [u8],
     input: &mut [u8],
     output: &mut [u8],
-) -> Passed
+) -> Option<batches::Stream>
     requires { (held_need ≤ length held.old) × (answer_room ≤ length output.old) }
 {
-    let mut passed = Passed {
-        stream: batches::start(),
-        failed: false,
-    };
+    let mut stream = batches::start();
     for _ in 0..u64::MAX {
-        let Some(count) = get(rt, input) else {
-            passed.failed = true;
-            return passed;
-        };
+        let count = get(rt, input)?;
         if count == 0 {
-            return passed;
+            break;
         }
-        passed = pass(rt, passed.stream, held, &input[..count], output);
-        if passed.failed || over(passed.stream.stage) {
-            return passed;
+        stream = pass(rt, stream, held, &input[..count], output)?;
+        if over(stream.stage) {
+            break;
         }
     }
-    passed
+    Some(stream)
 }
 
 fn main(rt: HostRuntime) {
     let mut held = store();
     let mut input = inputs::large_buffer();
     let mut output = room();
-    let passed = pass_all(&rt, &mut held, &mut input, &mut output);
-    if !passed.failed {
-        let last = batches::finish(passed.stream, &mut output);
+    if let Some(stream) = pass_all(&rt, &mut held, &mut input, &mut output) {
+        let last = batches::finish(stream, &mut output);
         put(&rt, &output[..last.length]);
     }
 }

@@ -38,7 +38,7 @@ use Rattle.theory.specs.Pivots.{PivotRows, order-distinct}
 use Rattle.working_rows.specs.Found.{Columns}
 use Rattle.sides.specs.StoreStates.{kept_same}
 use Rattle.reduction.specs.declared.step.Progress.{Progress}
-use Rattle.reduction.specs.declared.step.Outcome as Answer
+use Rattle.reduction.specs.Answer as Answer
 use Rattle.reduction.specs.Progress.{Ready, Reached, state_of, outcome_of, answer_of}
 use Rattle.reduction.specs.Dropping.{freed-none}
 use Rattle.steps.specs.HeldCalls.{pivots_right_of}

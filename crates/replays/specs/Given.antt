@@ -5,13 +5,13 @@
 --
 -- Main statements
 --   pred-less, counted-above     a number counted from 0
---   counted-passes, counted-fails   the kind of a step
+--   counted-passes, counted-fails, kind-given, kind-ungiven   the kind of a step
 --   exchange-given, exchange-ungiven, exchange-counted   an exchange
 --   combination-given, combination-ungiven, combination-formed, length-g, length-h   a combination
 --   raise-given, lower-given, drop-given, row-counted, row-ungiven, kind-past   one row, and no kind
 use Prim.Native.Nat.{ℕ, zero, suc, ◌-◌, pred, ◌≤◌}
-use Rattle.std.proofs.Common.{arith}
-use Rattle.std.specs.Prelude.{◌≡◌, Bool, true, false, ◌&&◌, List, T, ℤ, pos, negsuc, nat_abs, length, get_or, drop}
+use Rattle.std.proofs.Common.{arith, ◌∙◌}
+use Rattle.std.specs.Prelude.{◌≡◌, ◌≢◌, Bool, true, false, ◌&&◌, List, T, ℤ, pos, negsuc, nat_abs, length, get_or, drop}
 use Rattle.std.proofs.Math.Path.{refl, ap}
 use Rattle.std.proofs.Math.Bool.{cond}
 use Rattle.std.proofs.Math.Option.{Option, none, some}
@@ -24,6 +24,9 @@ use Rattle.algebra.specs.Polynomials.{is_zero_of}
 use Rattle.log_steps.specs.Logs.{Change, exchanging, combining, raising, lowering, dropping, counted, place_of, multiplier_g}
 use Rattle.log_steps.specs.Logs.{multiplier_h, step_length, of_row_of, two_places, exchange_of, combination_right, combination_of, change_of_kind}
 use Rattle.log_steps.specs.Logs.{change_of}
+use Rattle.log_steps.specs.Kinds.{number_of}
+use Rattle.log_steps.specs.declared.kinds.Kind.{Kind}
+use Rattle.log_steps.specs.declared.kinds.Kind.TheVariants.{Exchange, Combination, Raise, Lower, Drop}
 
 pub pred-less : (n : ℕ) → n - 1 ≡ pred n
 pred-less zero = refl
@@ -49,6 +52,10 @@ given t a e = ap (λ b. cond b (some a) none) e
 ungiven : {A : Type 0} (t : Bool) (a : Option A) → t ≡ false → cond t a none ≡ none
 ungiven t a e = ap (λ b. cond b a none) e
 
+same-both : {A : Type 0} (t : Bool) (o : Option A) → cond t o o ≡ o
+same-both true o = refl
+same-both false o = refl
+
 module _ (x : List ℤ) where
   abbrev place : ℕ → ℕ
   place k = place_of (get_or x k (pos 0))
@@ -60,6 +67,33 @@ module _ (x : List ℤ) where
   pub counted-fails : counted (get_or x 0 (pos 0)) ≡ false → change_of x ≡ none
   unfolding change_of
   counted-fails e = ungiven (counted (get_or x 0 (pos 0))) (change_of_kind (place 0) x) e
+
+  -- The kind that is read.
+  pub kind-given : (k : Kind) → get_or x 0 (pos 0) ≡ pos (number_of k) → change_of x ≡ change_of_kind (pred (number_of k)) x
+  unfolding counted place_of
+  kind-given k e =
+      counted-passes (ap counted e ∙ is_counted k) ∙ ap (λ n. change_of_kind (place_of n) x) e
+    where
+      is_counted : (k : Kind) → counted (pos (number_of k)) ≡ true
+      is_counted Exchange = refl
+      is_counted Combination = refl
+      is_counted Raise = refl
+      is_counted Lower = refl
+      is_counted Drop = refl
+
+  pub kind-ungiven : ((k : Kind) → get_or x 0 (pos 0) ≢ pos (number_of k)) → change_of x ≡ none
+  unfolding change_of counted place_of change_of_kind
+  kind-ungiven h = go (get_or x 0 (pos 0)) h
+    where
+      go : (a : ℤ) → ((k : Kind) → a ≢ pos (number_of k)) → cond (counted a) (change_of_kind (place_of a) x) none ≡ none
+      go (pos zero) h = refl
+      go (pos (suc zero)) h = absurd (h Exchange refl)
+      go (pos (suc (suc zero))) h = absurd (h Combination refl)
+      go (pos (suc (suc (suc zero)))) h = absurd (h Raise refl)
+      go (pos (suc (suc (suc (suc zero))))) h = absurd (h Lower refl)
+      go (pos (suc (suc (suc (suc (suc zero)))))) h = absurd (h Drop refl)
+      go (pos (suc (suc (suc (suc (suc (suc k))))))) h = same-both (counted (pos (suc (suc (suc (suc (suc (suc k)))))))) none
+      go (negsuc k) h = refl
 
   -- ---- two rows
 

@@ -1,4 +1,5 @@
 pub mod ReplayWork
 pub mod Given
+pub mod Said
 pub mod Replays
 pub mod Endings

@@ -3,23 +3,26 @@
 -- Main definitions
 --   outcome_of m D steps log s    the outcome of the steps of a log and its order
 --   Worked rows .. first o x     what the work gives
+--   WorkedTo rows .. first r x   the same of its result r
 --   Left rows .. first o x       what is left where it is refused, too
 --
 -- Main statements
 --   outcome-refused              an answer with a refusal
 --   work-refused, work-ended     a step is refused; the end
 --   left-held, left-cleared      what is left of a replay that is not refused, and of one that is
-use Rattle.std.specs.Prelude.{ℕ, zero, suc, ◌*◌, ◌≡◌, refl, ◌≢◌, Bool, List, ℤ, pos, replicate}
+use Rattle.std.specs.Prelude.{ℕ, zero, suc, ◌≡◌, refl, ◌≢◌, Bool, List, ℤ, Result}
 use Rattle.std.proofs.Math.Nat.{le_trans}
 use Rattle.std.proofs.Common.{sym, ◌∙◌}
 use Rattle.std.proofs.Math.Path.{ap, ap₂}
-use Rattle.std.proofs.Math.Seq.{paste}
-use Rattle.rules.specs.Limits.{relation_length}
+use Rattle.lists.specs.Overwritten.{overwrite}
+use Rattle.refusals.specs.declared.Refusal.{Refusal}
+use Rattle.rules.specs.Calls.{zeros}
 use Rattle.rules.specs.Elimination.{State, Outcome, going, refused, and_then}
-use Rattle.rules.specs.Stores.{row_need}
+use Rattle.rules.specs.Stores.{row_need, relation_need}
 use Rattle.sides.specs.StoreStates.{kept_then}
 use Rattle.reduction.specs.declared.step.Progress.{Progress}
-use Rattle.reduction.specs.declared.step.Outcome as Answer
+use Rattle.reduction.specs.Answer as Answer
+use Rattle.reduction.specs.Answer.{run_answer}
 use Rattle.reduction.specs.Progress.{Ready, Reached, state_of, outcome_at, answer_of, start_progress}
 use Rattle.reduction.specs.Progress as Progress
 use Rattle.reduction.specs.Dropping.{freed-then, kept_more}
@@ -36,6 +39,11 @@ outcome_of m D steps log s = and_then (replayed D (steps_in steps log) s) (order
 pub record Worked (rows relations rows' relations' : List ℤ) (first : Progress) (o : Answer.Outcome) (x : Outcome) : Type 0 where
   pub reached : Reached first.rows rows relations rows' relations' most_steps o x
   pub finished : Finished o
+
+-- The same of its result: with a refusal the stores are those of the progress `left`.
+pub record WorkedTo (rows relations rows' relations' : List ℤ) (first : Progress) (r : Result Progress Refusal) (x : Outcome) : Type 0 where
+  pub left : Progress
+  pub worked : Worked rows relations rows' relations' first (run_answer r left) x
 
 pub record Left (rows relations rows' relations' : List ℤ) (first : Progress) (o : Answer.Outcome) (x : Outcome) : Type 0 where
   pub ran : RanWithin most_steps first.rows rows relations rows' relations' o x
@@ -98,13 +106,12 @@ pub left-held : {rows relations rows' relations' : List ℤ} {first : Progress} 
     → Worked rows relations rows' relations' first o x → o.refusal ≡ 0 → Left rows relations rows' relations' first o x
 left-held ready w e = record { ran = ran-held ready.rows-within.long w.reached e; finished = w.finished }
 
-pub left-cleared : {rows relations rows₁ relations₁ rows₂ relations₂ : List ℤ} {first : Progress} {o o' : Answer.Outcome} {x : Outcome}
+pub left-cleared : {rows relations rows₁ relations₁ rows₂ relations₂ : List ℤ} {first : Progress} {o : Answer.Outcome} {x : Outcome}
     → Ready rows relations first → Worked rows relations rows₁ relations₁ first o x → o.refusal ≢ 0
-    → rows₂ ≡ paste rows₁ 0 (replicate (row_need first.rows) (pos 0)) (row_need first.rows)
-    → let used = o.progress.count * relation_length in relations₂ ≡ paste relations₁ 0 (replicate used (pos 0)) used
-    → o' ≡ answer_of o.refusal (start_progress first.rows 0) → Left rows relations rows₂ relations₂ first o' x
-left-cleared ready w n e f g =
+    → rows₂ ≡ overwrite (zeros (row_need first.rows)) rows₁ → relations₂ ≡ overwrite (zeros relation_need) relations₁
+    → Left rows relations rows₂ relations₂ first (answer_of o.refusal (start_progress first.rows 0)) x
+left-cleared ready w n e f =
     record {
-      ran = ran-cleared ready.few-rows ready.rows-within.long w.reached n e f g;
-      finished = record { all_settled = λ z. absurd (n (sym (ap (λ o. o.refusal) g) ∙ z)) };
+      ran = ran-cleared ready.few-rows ready.rows-within.long w.reached n e f;
+      finished = record { all_settled = λ z. absurd (n z) };
     }

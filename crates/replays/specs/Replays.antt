@@ -3,20 +3,23 @@
 -- Main definitions
 --   Replaying D l first .. p k   the loop's invariant: the first k steps of l lead from the first state to that of the progress p
 --   Replayed .. first o x        what the loop gives
+--   ReplayedTo .. first r x      the same of its result r
 --
 -- Main statements
 --   replay-starts, replay-goes, replay-halts, replay-stops   the turns of the loop
-use Rattle.std.specs.Prelude.{ℕ, zero, suc, ◌+◌, ◌≤◌, ◌<◌, ◌≡◌, refl, ◌≢◌, Bool, false, ℤ, length, get_or, drop}
+use Rattle.std.specs.Prelude.{ℕ, zero, suc, ◌+◌, ◌≤◌, ◌<◌, ◌≡◌, refl, ◌≢◌, Bool, false, Result, ℤ, length, get_or, drop}
 use Rattle.std.proofs.Common.{le_refl, arith, ◌∙◌, drop_of_length-le}
 use Rattle.std.proofs.Math.Nat.{le_trans}
 use Rattle.std.proofs.Math.Path.{sym, ap, ap₂, subst}
 use mathlib.Core.List.{List, []}
 use Rattle.lists.specs.Taken.{drop-next}
+use Rattle.refusals.specs.declared.Refusal.{Refusal}
 use Rattle.rules.specs.Stores.{row_need, relation_need}
 use Rattle.rules.specs.Elimination.{State, Outcome, going, refused, and_then}
 use Rattle.sides.specs.StoreStates.{kept_same, kept_then}
 use Rattle.reduction.specs.declared.step.Progress.{Progress}
-use Rattle.reduction.specs.declared.step.Outcome as Answer
+use Rattle.reduction.specs.Answer as Answer
+use Rattle.reduction.specs.Answer.{step_answer}
 use Rattle.reduction.specs.Progress.{Ready, Reached, state_of, outcome_of, outcome_at, answer_of}
 use Rattle.reduction.specs.Dropping.{freed-none, freed-then, kept_more}
 use Rattle.log_steps.specs.Logs.{most_steps, change_of, changed_if, replayed}
@@ -32,6 +35,11 @@ pub record Replayed (rows relations rows' relations' : List ℤ) (first : Progre
   pub reached : Reached first.rows rows relations rows' relations' most_steps o x
   pub goes_on : o.done ≡ false
   pub unsettled : o.progress.settled ≡ 0
+
+-- The same of its result: with a refusal the stores are those of the progress `left`.
+pub record ReplayedTo (rows relations rows' relations' : List ℤ) (first : Progress) (r : Result Progress Refusal) (x : Outcome) : Type 0 where
+  pub left : Progress
+  pub replayed : Replayed rows relations rows' relations' first (step_answer r left) x
 
 outcome-refused : (n : ℕ) (d : Bool) (s : State) → n ≢ 0 → outcome_of n d s ≡ refused n
 unfolding outcome_of

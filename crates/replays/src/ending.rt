@@ -3,25 +3,20 @@ ghost use Rattle.std.specs.Prelude.{◌≡◌, List, map, ◌≤◌, ℤ, pos, n
 ghost use Rattle.std.specs.Int.Signed.{le_z};
 ghost use Rattle.lists.specs.Tests.{every};
 ghost use Rattle.rules.specs.Limits.{column_count};
+ghost use Rattle.reduction.specs.Answer.{run_answer};
 ghost use Rattle.reduction.specs.Progress.{Ready, state_of};
 ghost use Rattle.log_steps.specs.Logs as Logs;
 ghost use Rattle.log_steps.specs.StoreChanges.{Begun};
 ghost use Rattle.replays.specs.Endings.{Ended};
 
-use reduction::step::{Outcome, Progress};
+use reduction::step::Progress;
+use refusals::Refusal;
 use stores::lengths::COLUMNS;
 
 fn none_negative(numbers: &[i64]) -> bool
     ensures { result ≡ every (le_z (pos 0)) numbers.now }
 {
-    let mut i = 0;
-    while i < numbers.len() {
-        if numbers[i] < 0 {
-            return false;
-        }
-        i += 1;
-    }
-    true
+    numbers.iter().all(|n| 0 <= *n)
 }
 
 // The four numbers without their signs.
@@ -56,31 +51,29 @@ fn order_holds(m: usize, w: usize, numbers: &[i64], named: [usize; COLUMNS]) -> 
 }
 
 // What is accepted has the columns of the log (SCOPE 13.3, 13.31, 13.32).
-pub(crate) fn finish(rows: &[i64], m: usize, numbers: &[i64], p: Progress) -> Outcome
+pub(crate) fn finish(
+    rows: &[i64],
+    m: usize,
+    numbers: &[i64],
+    p: Progress,
+) -> Result<Progress, Refusal>
     requires { Begun rows.now p × (m ≤ column_count) × (length numbers.now ≡ column_count) }
     ensures { (relations : List ℤ) → Ready rows.now relations p
-        → Ended rows.now relations p result
+        → Ended rows.now relations p (run_answer result p)
         (Logs.ordered m numbers.now (state_of rows.now relations p)) }
 {
     let w = p.rows;
     let named = sizes_of(numbers);
     if !order_holds(m, w, numbers, named) {
-        return reduction::step::answer(13, p);
+        return Err(Refusal::WrongLog);
     }
     let order = steps::checks::from_zero(named, w);
     if !steps::checks::pivots_right(rows, order, w) {
-        return reduction::step::answer(13, p);
+        return Err(Refusal::WrongLog);
     }
-    let progress = Progress {
-        rows: w,
+    Ok(Progress {
         settled: w,
         order,
-        count: p.count,
-        shifts: p.shifts,
-    };
-    Outcome {
-        refusal: 0,
-        done: true,
-        progress,
-    }
+        ..p
+    })
 }

@@ -3,7 +3,7 @@
 // coefficients, from power 0 up. The last line says how many roots all searches together have found.
 #![tactic(auto)]
 
-ghost use Rattle.std.specs.Prelude.{◌≡◌, ◌^◌, ◌<◌, ◌≤◌, T, length};
+ghost use Rattle.std.specs.Prelude.{◌≡◌, ◌^◌, ◌<◌, ◌≤◌, T, IfSome, length};
 ghost use Rattle.rules.specs.Limits.{small};
 ghost use Rattle.lists.specs.Tests.{every};
 
@@ -15,28 +15,13 @@ const COEFFICIENTS: usize = 16;
 // A number is read as far as it is below this.
 const LONG: u64 = 1_000_000_000;
 
-const MINUS: u8 = 45;
-
-const ZERO: u64 = 48;
-
-const NO_DIGIT: u64 = 10;
-
-fn wide(byte: u8) -> u64
-    ensures { result ≡ byte }
+fn digit_at(bytes: &[u8], at: usize) -> Option<u64>
+    ensures { IfSome result (λ digit. (digit < 10) × (at < length bytes.now)) }
 {
-    byte as u64
-}
-
-fn digit_at(bytes: &[u8], at: usize) -> u64
-    ensures { result < 10 → at < length bytes.now }
-{
-    if at < bytes.len() {
-        let byte = wide(bytes[at]);
-        if ZERO <= byte && byte - ZERO < NO_DIGIT {
-            return byte - ZERO;
-        }
+    match bytes.get(at) {
+        Some(byte @ b'0'..=b'9') => Some(u64::from(*byte - b'0')),
+        _ => None,
     }
-    NO_DIGIT
 }
 
 fn signed(size: u64, negative: bool) -> i64
@@ -61,14 +46,16 @@ fn number_at(bytes: &[u8], from: usize) -> Number
     requires { from < length bytes.now }
     ensures { from < result.next }
 {
-    let negative = bytes[from] == MINUS;
+    let negative = bytes[from] == b'-';
     let mut at = if negative { from + 1 } else { from };
     let mut size: u64 = 0;
-    let mut digit = digit_at(bytes, at);
-    while digit < NO_DIGIT && size < LONG {
+    // No count: the digits are as many as there are, below the limit.
+    while size < LONG {
+        let Some(digit) = digit_at(bytes, at) else {
+            break;
+        };
         size = size * 10 + digit;
         at += 1;
-        digit = digit_at(bytes, at);
     }
     Number {
         value: signed(size, negative),
@@ -89,13 +76,13 @@ fn polynomial_at(bytes: &[u8], from: usize) -> Line
 {
     let mut values = [0; COEFFICIENTS];
     let mut at = from;
-    let mut k = 0;
-    while k < COEFFICIENTS && at < bytes.len() {
+    for value in &mut values {
+        if bytes.len() <= at {
+            break;
+        }
         let read = number_at(bytes, at);
-        let value = read.value;
-        values[k] = value;
+        *value = read.value;
         at = read.next;
-        k += 1;
     }
     Line { values, next: at }
 }
@@ -115,8 +102,8 @@ fn found_by(p: &[i64], searches: u64) -> u64
 fn print_list(rt: &impl Print, all: RootsWith)
     requires { all.count ≤ 16 }
 {
-    for value in &all.values[..all.count] {
-        print_signed(rt, *value);
+    for root in &all.roots[..all.count] {
+        print_signed(rt, root.value);
     }
 }
 
@@ -125,13 +112,11 @@ fn print_roots(rt: &impl Print, p: &[i64])
 {
     print(rt, b"roots");
     print_list(rt, multiplicities::roots_with(p));
-    let least = multiplicities::smallest_with(p);
-    let most = multiplicities::largest_with(p);
-    if least.found {
+    if let (Some(least), Some(most)) = (roots::smallest_root(p), roots::largest_root(p)) {
         print(rt, b" from");
-        print_signed(rt, least.root);
+        print_signed(rt, least);
         print(rt, b" to");
-        print_signed(rt, most.root);
+        print_signed(rt, most);
     }
     print(rt, b"\n");
 }
@@ -154,6 +139,7 @@ fn searched_all(rt: &impl Print, bytes: &[u8]) -> u64
     let searches = integers::magnitude(first.value);
     let mut found: u64 = 0;
     let mut at = first.next;
+    // No count: a line is as long as it is.
     while at < bytes.len() {
         let next = polynomial_at(bytes, at);
         let values = next.values;

@@ -37,12 +37,15 @@ use mathlib.Core.List.{List, [], ◌∷◌, ◌++◌, prod}
 use mathlib.Core.List.Memᴰ
 use mathlib.Core.List.{Mem, Memᴰ}
 use mathlib.Core.List.Pairwise
-use Rattle.std.proofs.Math.Option.{Option, some}
+use Rattle.std.proofs.Math.Option.{Option, none, some}
+use Rattle.std.specs.Prelude as Prelude
+use Rattle.std.specs.Prelude.{None, Some, slice_get}
 use Rattle.std.proofs.Math.Nat.{mul-div_cancel', mul-one, pos_of_dvd_of_pos, eq-one_of_dvd-one, dvd_of_mul-dvd-mul_left, div-zero, div-eq_of_eq-mul_left}
 use Rattle.std.proofs.Math.Decide.{dec_le, dec_dvd}
 use Rattle.std.proofs.Math.Dec.{T, not_T}
 use Rattle.std.proofs.Math.ListN.{get_or, get_or-append}
 use Rattle.std.proofs.Math.Seq.{take-append_seam}
+use Rattle.std.proofs.lemmas.Option.{slice_get-get_or}
 use Rattle.std.proofs.Math.IntN.{ℤ, pos, neg_ℤ, neg_ℤ-neg_ℤ}
 use Rattle.std.specs.Int.Signed.{le_z, quot_z}
 use Rattle.integers.specs.Ranges.{sfits-size}
@@ -56,8 +59,7 @@ use Rattle.algebra.specs.Vanishing.{nonzero-past-lowest, lowest-positive}
 use Rattle.algebra.specs.Coefficients.{degree-is_zero, coeff-degree, lowest-place}
 use Rattle.algebra.specs.Roots.{place, roots, ascending-distinct, roots-sound, roots-complete, roots-ascending}
 use Rattle.rules.specs.Limits.{bound, small}
-use Rattle.rules.specs.Elimination.{Side, leading, trailing, further, furthest}
-use Rattle.rules.specs.Calls.{root_found, root_value}
+use Rattle.rules.specs.Elimination.{leading, trailing, further, furthest}
 use Rattle.polynomials.specs.Content.{small_at}
 use Rattle.lists.specs.Taken.{drop-next}
 use Rattle.lists.specs.Places.{get_or-member}
@@ -68,7 +70,6 @@ use Rattle.roots.specs.Bound.{Top, RootsBelow, NoneBetween, degree-inside, top-d
 use Rattle.roots.specs.Factors.{product, product-cons, product-positive, Simple, AllSimple, Factored, Run, simple-coprime}
 use Rattle.roots.specs.Factors.{run-divides}
 use Rattle.roots.specs.declared.RootList.{RootList}
-use Rattle.roots.specs.declared.RootAnswer.{RootAnswer}
 use Rattle.roots.specs.declared.FactorList.{FactorList}
 
 -- The first `count` values.
@@ -95,9 +96,10 @@ unfoldable pub try_both : Polynomial → ℕ → List ℤ → List ℤ
 unfolding try_root
 try_both p d l = try_root p (neg_ℤ (pos d)) (try_root p (pos d) l)
 
--- The value beside "no" is 0 (SCOPE 2.82).
-abbrev pub answered : Option ℤ → RootAnswer
-answered o = record { found = root_found o; root = root_value o }
+-- The root asked for, as the code gives it (SCOPE 2.82).
+abbrev pub answered : Option ℤ → Prelude.Option ℤ
+answered none = None
+answered (some r) = Some r
 
 -- ---- the root test
 
@@ -554,21 +556,15 @@ furthest-last a (b ∷ l) h =
     last : ℤ
     last = get_or (b ∷ l) (length l) (pos 0)
 
-pub answered-none : (side : Side) (l : List ℤ) → length l ≡ 0 → answered (furthest side l) ≡ record { found = false; root = pos 0 }
-unfolding furthest root_found root_value
-answered-none side [] h = refl
-answered-none side (a ∷ l) h = absurd (suc-ne-zero (length l) h)
+-- The last member of the list of roots, and the first.
+pub answered-last : (l : List ℤ) → Ascending l → slice_get l (length l - 1) ≡ answered (furthest leading l)
+unfolding furthest
+answered-last [] h = refl
+answered-last (a ∷ l) h =
+    let e : suc (length l) - 1 ≡ length l = omega arith in
+    ap (slice_get (a ∷ l)) e ∙ slice_get-get_or (a ∷ l) (length l) (pos 0) (omega arith) ∙ sym (ap answered (furthest-last a l h))
 
-pub answered-first : (l : List ℤ) → Ascending l → 0 < length l
-    → answered (furthest trailing l) ≡ record { found = true; root = get_or l 0 (pos 0) }
-unfolding root_found root_value
-answered-first [] h k = absurd (omega arith)
-answered-first (a ∷ l) h k = ap answered (furthest-first a l h)
-
-pub answered-last : (l : List ℤ) → Ascending l → 0 < length l
-    → answered (furthest leading l) ≡ record { found = true; root = get_or l (length l - 1) (pos 0) }
-unfolding root_found root_value
-answered-last [] h k = absurd (omega arith)
-answered-last (a ∷ l) h k =
-    let e : length l ≡ suc (length l) - 1 = omega arith in
-    ap answered (furthest-last a l h) ∙ ap (λ n. record { found = true; root = get_or (a ∷ l) n (pos 0) }) e
+pub answered-first : (l : List ℤ) → Ascending l → slice_get l 0 ≡ answered (furthest trailing l)
+unfolding furthest
+answered-first [] h = refl
+answered-first (a ∷ l) h = sym (ap answered (furthest-first a l h))

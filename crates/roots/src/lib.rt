@@ -21,19 +21,28 @@ const MIDDLE: u32 = 16_384;
 // So many divisors at most are tried one by one.
 const FEW: u32 = 256;
 
-// The integer roots of a polynomial, ascending: the first `count` of `values`; the others are 0.
-#[derive(Drop)]
+// The integer roots of a polynomial, ascending: the first `count` of `values`; the others are 0. No heap: an array and a count.
+#[derive(Clone, Copy, Drop)]
 pub struct RootList {
     pub count: usize,
     pub values: [i64; 16],
 }
 
-fn no_roots() -> RootList
-    ensures { result ≡ listed [] }
-{
-    RootList {
-        count: 0,
-        values: [0; 16],
+impl RootList {
+    fn empty() -> RootList
+        ensures { result ≡ listed [] }
+    {
+        RootList {
+            count: 0,
+            values: [0; 16],
+        }
+    }
+
+    pub fn as_slice(&self) -> &[i64]
+        requires { self.now.count ≤ length self.now.values }
+        ensures { result.now ≡ held self.now }
+    {
+        &self.values[..self.count]
     }
 }
 
@@ -43,10 +52,8 @@ fn vanishes(p: &[i64], top: usize, r: i64) -> bool
     requires { (length p.now ≤ 16) × T (every small p.now) × Top p.now top × (nat_abs r ≤ bound) }
     ensures { result ≡ Polynomials.is_zero_ℤ (Polynomials.eval p.now r) }
 {
-    let mut i = top;
-    let mut value = p[i];
-    while 0 < i {
-        i -= 1;
+    let mut value = p[top];
+    for i in (0..top).rev() {
         value = value * r + p[i];
         if LARGE < integers::magnitude(value) {
             return false;
@@ -59,7 +66,7 @@ pub fn is_root(p: &[i64], r: i64) -> bool
     requires { (length p.now ≤ 16) × T (every small p.now) }
     ensures { result ≡ Polynomials.is_zero_ℤ (Polynomials.eval p.now r) }
 {
-    if p.len() == 0 {
+    if p.is_empty() {
         true
     } else if integers::within_bound(r) {
         vanishes(p, p.len() - 1, r)
@@ -76,8 +83,8 @@ fn inserted(found: RootList, r: i64) -> RootList
     let n = found.count;
     let mut v = found.values;
     let mut x = r;
-    let mut i = 0;
-    while i < n {
+    // By index: a place is read and then written anew.
+    for i in 0..n {
         let y = v[i];
         if x == y {
             return RootList {
@@ -89,7 +96,6 @@ fn inserted(found: RootList, r: i64) -> RootList
             v[i] = x;
             x = y;
         }
-        i += 1;
     }
     v[n] = x;
     RootList {
@@ -122,7 +128,7 @@ fn tried_zero(p: &[i64]) -> RootList
             values: [0; 16],
         }
     } else {
-        no_roots()
+        RootList::empty()
     }
 }
 
@@ -150,12 +156,6 @@ fn tried_below(p: &[i64], top: usize, d: u32, limit: u32, found: RootList) -> Ro
     }
 }
 
-fn capped(n: u64) -> u64
-    ensures { (result ≤ 268435456) × (result < 268435456 → result ≡ n) }
-{
-    if n < 268435456 { n } else { 268435456 }
-}
-
 // How far, at least, a number of size `low` to `high` and one of the given size are from cancelling out.
 fn distance(low: u64, high: u64, size: u64) -> u64
     ensures { (result + size ≤ low) ⊎ (result + high ≤ size) ⊎ (result ≡ 0) }
@@ -175,21 +175,19 @@ fn none_between(p: &[i64], top: usize, n: u64, m: u64) -> bool
     requires { T (every small p.now) × Top p.now top × (2 ≤ n) × (n ≤ 268435456) × (0 < m) × (m ≤ 268435456) }
     ensures { result ≡ true → NoneBetween p.now n m }
 {
-    let mut i = top;
-    let mut least = integers::magnitude(p[i]);
+    let mut least = integers::magnitude(p[top]);
     let mut most = least;
-    while 0 < i {
+    for i in (0..top).rev() {
         if 268435456 <= least {
             return true;
         }
-        i -= 1;
         let size = integers::magnitude(p[i]);
         let high = most * m;
         least = distance(least * n, high, size);
         if least == 0 {
             return false;
         }
-        most = capped(high + size);
+        most = (high + size).min(268435456);
     }
     0 < least
 }
@@ -200,6 +198,7 @@ fn low_end(p: &[i64], top: usize) -> u32
     ensures { (2 ≤ result) × (result ≤ 256 → NoneBetween p.now result 16384) }
 {
     let mut n: u32 = 2;
+    // Kept as a loop by value: n doubles, it counts nothing.
     while n <= FEW {
         if none_between(p, top, n as u64, MIDDLE as u64) {
             return n;
@@ -215,6 +214,7 @@ fn high_end(p: &[i64], top: usize) -> u32
     ensures { (0 < result) × NoneBetween p.now 16384 result }
 {
     let mut m = PAST;
+    // Kept as a loop by value: m halves, it counts nothing.
     while MIDDLE < m {
         if none_between(p, top, MIDDLE as u64, m as u64) {
             return m;
@@ -230,6 +230,7 @@ fn bound_of_roots(p: &[i64], top: usize, from: u32) -> u32
     ensures { RootsBelow p.now result }
 {
     let mut r = from;
+    // Kept as a loop by value: r doubles, it counts nothing.
     while r < PAST {
         if none_between(p, top, r as u64, PAST as u64) {
             return r;
@@ -239,23 +240,29 @@ fn bound_of_roots(p: &[i64], top: usize, from: u32) -> u32
     r
 }
 
-// The factors of a number: the first `count` of `values`.
+// The factors of a number: the first `count` of `values`. No heap: an array and a count.
 #[derive(Drop)]
 struct FactorList {
     count: usize,
     values: [u32; 28],
 }
 
-fn with_factor(list: FactorList, f: u32) -> FactorList
-    requires { Sized list × (length (the_factors_of list) < 28) }
-    ensures { Sized result × (the_factors_of result ≡ the_factors_of list ++ (f ∷ [])) }
-{
-    let n = list.count;
-    let mut v = list.values;
-    v[n] = f;
-    FactorList {
-        count: n + 1,
-        values: v,
+impl FactorList {
+    fn empty() -> FactorList
+        ensures { Sized result × (the_factors_of result ≡ []) }
+    {
+        FactorList {
+            count: 0,
+            values: [0; 28],
+        }
+    }
+
+    fn push(&mut self, f: u32)
+        requires { Sized self.old × (length (the_factors_of self.old) < 28) }
+        ensures { Sized self.new × (the_factors_of self.new ≡ the_factors_of self.old ++ (f ∷ [])) }
+    {
+        self.values[self.count] = f;
+        self.count += 1;
     }
 }
 
@@ -272,17 +279,15 @@ fn factors(a: u32, limit: u32) -> FactorList
     requires { (0 < a) × (a ≤ bound) }
     ensures { Sized result × Factored limit a (the_factors_of result) }
 {
-    let mut list = FactorList {
-        count: 0,
-        values: [0; 28],
-    };
+    let mut list = FactorList::empty();
     let mut rest = a;
     let mut q: u32 = 2;
     let mut gap: u32 = 1;
+    // Kept as a loop by value: it ends where q passes the square root of what is left.
     while q <= rest / q && q < limit {
         let quotient = rest / q;
         if quotient * q == rest {
-            list = with_factor(list, q);
+            list.push(q);
             rest = quotient;
         } else {
             let next = next_gap(q, gap);
@@ -290,11 +295,10 @@ fn factors(a: u32, limit: u32) -> FactorList
             gap = next;
         }
     }
-    if rest == 1 {
-        list
-    } else {
-        with_factor(list, rest)
+    if rest != 1 {
+        list.push(rest);
     }
+    list
 }
 
 // The first place after `from` where another factor stands.
@@ -304,14 +308,12 @@ fn after_run(factors: &[u32], from: usize) -> usize
         × Run (get_or factors.now from 0) (drop from factors.now) (drop result factors.now) }
 {
     let q = factors[from];
-    let mut next = from + 1;
-    while next < factors.len() {
+    for next in from + 1..factors.len() {
         if factors[next] != q {
             return next;
         }
-        next += 1;
     }
-    next
+    factors.len()
 }
 
 // Both signs of d times each divisor of the product of the factors from i on, if it is below the limit: those with factor i,
@@ -349,9 +351,15 @@ fn by_factors(p: &[i64], top: usize, a: u32, limit: u32) -> RootList
     ensures { result ≡ listed (Roots.roots p.now) }
 {
     let list = factors(a, limit);
-    let n = list.count;
-    let values = list.values;
-    tried_products(p, top, limit, &values[..n], 0, 1, tried_zero(p))
+    tried_products(
+        p,
+        top,
+        limit,
+        &list.values[..list.count],
+        0,
+        1,
+        tried_zero(p),
+    )
 }
 
 // Is one of d and -d a root?
@@ -394,6 +402,7 @@ fn next_pair(p: &[i64], top: usize, a: u32, from: u32, few: u32, limit: u32) -> 
     ensures { (from ≤ result) × NothingNew p.now a from result }
 {
     let mut d = from;
+    // Kept as a loop by value: it ends where d passes the square root of a.
     while d <= a / d && d < few {
         if has_root(p, top, a, d, limit) {
             return d;
@@ -412,17 +421,12 @@ fn by_pairs(p: &[i64], top: usize, a: u32, few: u32, limit: u32) -> RootList
 {
     let mut found = tried_zero(p);
     let mut d = next_pair(p, top, a, 1, few, limit);
+    // Kept as a loop by value: d goes on to the next pair, as far as the square root of a.
     while d <= a / d && d < few {
         found = tried_below(p, top, a / d, limit, tried_both(p, top, d, found));
         d = next_pair(p, top, a, d + 1, few, limit);
     }
     found
-}
-
-fn larger_of(a: u32, b: u32) -> u32
-    ensures { (a ≤ result) × (b ≤ result) }
-{
-    if a < b { b } else { a }
 }
 
 // No root has a size from low up to high. One below low is a divisor of a, and one from high on has a cofactor of at most a / high.
@@ -432,7 +436,7 @@ fn beside_gap(p: &[i64], top: usize, a: u32, low: u32) -> RootList
     ensures { result ≡ listed (Roots.roots p.now) }
 {
     let high = high_end(p, top);
-    let few = larger_of(low, a / high + 1);
+    let few = low.max(a / high + 1);
     let limit = if high == PAST { low } else { PAST };
     if few <= FEW {
         by_pairs(p, top, a, few, limit)
@@ -461,7 +465,7 @@ fn root_of_linear(p: &[i64]) -> RootList
     ensures { result ≡ listed (Roots.roots p.now) }
 {
     let quotient = p[0] / p[1];
-    tried(p, 1, -quotient, no_roots())
+    tried(p, 1, -quotient, RootList::empty())
 }
 
 // The integer roots, ascending, each once; none for a constant, which is not searched (SCOPE 2.31, 2.32). The size of the lowest
@@ -472,7 +476,7 @@ pub fn roots(p: &[i64]) -> RootList
 {
     let n = polynomials::content::degree(p);
     if n == 0 {
-        no_roots()
+        RootList::empty()
     } else if n == 1 {
         root_of_linear(p)
     } else {
@@ -484,46 +488,17 @@ pub fn roots(p: &[i64]) -> RootList
     }
 }
 
-// Whether there is an integer root, and the one asked for; 0 with "no" (SCOPE 2.82).
-#[derive(Drop)]
-pub struct RootAnswer {
-    pub found: bool,
-    pub root: i64,
-}
-
-pub fn largest_root(p: &[i64]) -> RootAnswer
+// The root asked for, if there is an integer root (SCOPE 2.82).
+pub fn largest_root(p: &[i64]) -> Option<i64>
     requires { (length p.now ≤ 16) × T (every small p.now) }
     ensures { result ≡ answered (furthest leading (Roots.roots p.now)) }
 {
-    let all = roots(p);
-    let n = all.count;
-    if n == 0 {
-        RootAnswer {
-            found: false,
-            root: 0,
-        }
-    } else {
-        RootAnswer {
-            found: true,
-            root: all.values[n - 1],
-        }
-    }
+    roots(p).as_slice().last().copied()
 }
 
-pub fn smallest_root(p: &[i64]) -> RootAnswer
+pub fn smallest_root(p: &[i64]) -> Option<i64>
     requires { (length p.now ≤ 16) × T (every small p.now) }
     ensures { result ≡ answered (furthest trailing (Roots.roots p.now)) }
 {
-    let all = roots(p);
-    if all.count == 0 {
-        RootAnswer {
-            found: false,
-            root: 0,
-        }
-    } else {
-        RootAnswer {
-            found: true,
-            root: all.values[0],
-        }
-    }
+    roots(p).as_slice().first().copied()
 }

@@ -3,7 +3,7 @@
 -- Main definitions
 --   result_of r, call_of r rows relations   the result, and the whole call, as `rules` has them
 --   result_after_of side D x          the result of a call whose run has the outcome x
---   Final side D rows o           what the row store holds when the run has ended with the answer o
+--   Final side D rows o, FinalIn side D rows r   what the row store holds when the run has ended with the answer o, or the result r
 --   Checked z count rows relations   what the stores hold when the checks have passed
 --   RanOn side z count .. o       the answer o and both stores are those of the whole run
 --
@@ -17,7 +17,7 @@
 --   final-run                     a whole run ends, and one that accepts has settled every row that is left
 --   call-left, call-run, call-refused   the whole call
 use Prim.Native.Nat.{ℕ, zero, suc, ◌+◌, ◌*◌, ◌-◌, ◌≤◌, ◌<◌}
-use Rattle.std.proofs.Common.{le_of_suc-le-suc, le_of_lt, add-one, arith, sym, ◌∙◌, ap, ap₂, subst, take-suc, length-take-le}
+use Rattle.std.proofs.Common.{Ok, Err, le_of_suc-le-suc, le_of_lt, add-one, arith, sym, ◌∙◌, ap, ap₂, subst, take-suc, length-take-le}
 use Rattle.std.specs.Prelude.{◌≡◌, ◌≢◌, Bool, true, false, not, T, ℤ, pos, length, take, drop, get_or, set, replicate}
 use Rattle.std.proofs.Math.Path.{refl}
 use mathlib.Core.List.{List, [], ◌∷◌, ◌++◌, map, flatten, map-append}
@@ -29,16 +29,18 @@ use Rattle.lists.specs.Parts.{parts}
 use Rattle.lists.specs.Tests.{T-&&, every, every_append}
 use Rattle.rules.specs.Limits.{column_count, row_length, relation_length, small, most_equations}
 use Rattle.rules.specs.Rows.{Row, Relation, coefficients_of, small_row, zero_block}
-use Rattle.rules.specs.Elimination.{Side, State, Outcome, going, done, refused, rank, whole_run_of, never_number, diagonal}
+use Rattle.rules.specs.Elimination.{Side, State, Outcome, going, done, refused, rank, whole_run_of, never_number, diagonal, report, reported_times}
 use Rattle.rules.specs.Stores.{Sizes, equations, Valid, span, sizes_right_of, check_stores_of, rows_of, relations_of, row_need, relation_need}
 use Rattle.rules.specs.Stores.{row_of, row_store_of, relation_store_of, relation_numbers, unused_zero_of, row_right_of, relation_right_of}
 use Rattle.rules.specs.Layout.{row_store_of-rows_of, relation_store_of-relations_of, length-relations_of, size-bounds, length-rows_of, block-place}
 use Rattle.rules.specs.Layout.{StoresRight, check_stores-zero, stores-valid, NumbersRight, numbers_right-iff}
 use Rattle.rules.specs.Layout.{lengths_right-iff, count_right-iff}
-use Rattle.rules.specs.Calls.{Result, Call, reported_order, refusal, acceptance, zeros}
+use Rattle.rules.specs.Calls.{Result, Call, reported_order, refusal, acceptance, zeros, root_found, root_value}
 use Rattle.lists.specs.Padded.{pad_to, pad_to-more}
 use Rattle.rules.specs.Calls.{cleared, unchanged, after_run_of, after_check, call_run}
-use Rattle.multiplicities.specs.declared.RootWith.{RootWith}
+use Rattle.multiplicities.specs.declared.Root.{Root}
+use Rattle.multiplicities.specs.Counts.{no_root}
+use Rattle.std.specs.Prelude.{Option, is_some, unwrap_or}
 use Rattle.theory.specs.Settled.{Diagonal, nonzero-of-diagonal}
 use Rattle.theory.proofs.Ending.{whole_run-ends}
 use Rattle.theory.proofs.Demands.{diagonal-nonzero}
@@ -47,25 +49,36 @@ use Rattle.sides.specs.Lent.{Within, Listing}
 use Rattle.reduction.specs.Progress.{state_of, outcome_of, outcome_at, Ready}
 use Rattle.reduction.specs.Ran.{Ran, rows_after_of, relations_after_of, zeros-small}
 use Rattle.sides.specs.FurthestRoots.{Nonzero}
-use Rattle.sides.specs.ReportLaws.{settled_state, reported_with, diagonal-settled, report-settled}
+use Rattle.sides.specs.ReportLaws.{settled_state, reported_with, answer-found, answer-root, answer-times, diagonal-settled, report-settled}
+use Rattle.sides.specs.FurthestRoots.{answer}
 use Rattle.reduction.specs.declared.step.Progress.{Progress}
-use Rattle.reduction.specs.declared.step.Outcome as Answer
-use Rattle.runs.specs.declared.RunResult.{RunResult}
+use Rattle.refusals.specs.declared.Refusal.{Refusal}
+use Rattle.refusals.specs.Refusals.{number_of, number-nonzero}
+use Rattle.std.specs.Prelude as Std
+use Rattle.reduction.specs.Answer as Answer
+use Rattle.reduction.specs.Answer.{run_answer}
+use Rattle.runs.specs.declared.RunReport.{RunReport}
 
-unfoldable pub result_of : RunResult → Result
-result_of r =
+-- A root that is not there is reported as 0, and so is how often it occurs.
+abbrev accepted_with : ℕ → ℕ → List ℕ → Option Root → ℕ → Result
+accepted_with count shifts order a rank =
     record {
-      refusal = r.refusal;
-      relations = r.relations;
-      shifts = r.shifts;
-      order = r.order;
-      has_root_of = r.has_root;
-      root = r.root;
-      rank = r.rank;
-      multiplicity = r.multiplicity;
+      refusal = 0;
+      relations = count;
+      shifts = shifts;
+      order = order;
+      has_root_of = is_some a;
+      root = (unwrap_or a no_root).value;
+      rank = rank;
+      multiplicity = (unwrap_or a no_root).times;
     }
 
-unfoldable pub call_of : RunResult → List ℤ → List ℤ → Call
+unfoldable pub result_of : Std.Result RunReport Refusal → Result
+unfolding refusal
+result_of (Ok r) = accepted_with r.relations r.shifts r.order r.root r.rank
+result_of (Err r) = refusal (number_of r)
+
+unfoldable pub call_of : Std.Result RunReport Refusal → List ℤ → List ℤ → Call
 unfolding result_of
 call_of r rows relations = record { result = result_of r; row_store = rows; relation_store = relations }
 
@@ -104,20 +117,35 @@ few-blocks z h =
 
 -- ---- the result of a run that accepts
 
-abbrev accepted_with : ℕ → ℕ → List ℕ → RootWith → ℕ → Result
-accepted_with count shifts order a rank =
-    record {
+-- The answer in three numbers.
+accepted-answer : (side : Side) (D : ℕ) (s : State)
+    → accepted_with (length s.relations) s.shifts (reported_order s.order) (reported_with side D s) (rank s) ≡ acceptance side D s
+unfolding acceptance
+accepted-answer side D s =
+    let o = report side D s in
+    let n = reported_times side D s o in
+    ap₂ (λ f r. record {
       refusal = 0;
-      relations = count;
-      shifts = shifts;
-      order = order;
-      has_root_of = a.found;
-      root = a.root;
-      rank = rank;
-      multiplicity = a.times;
-    }
+      relations = length s.relations;
+      shifts = s.shifts;
+      order = reported_order s.order;
+      has_root_of = f;
+      root = r;
+      rank = rank s;
+      multiplicity = (unwrap_or (answer o n) no_root).times;
+    }) (answer-found o n) (answer-root o n)
+    ∙ ap (λ m. record {
+      refusal = 0;
+      relations = length s.relations;
+      shifts = s.shifts;
+      order = reported_order s.order;
+      has_root_of = root_found o;
+      root = root_value o;
+      rank = rank s;
+      multiplicity = m;
+    }) (answer-times side D s o)
 
-pub accepted-result : (side : Side) (D : ℕ) (rows relations : List ℤ) (p : Progress) (order : List ℕ) (a : RootWith)
+pub accepted-result : (side : Side) (D : ℕ) (rows relations : List ℤ) (p : Progress) (order : List ℕ) (a : Option Root)
     → p.rows ≡ p.settled → p.settled ≤ length p.order
     → order ≡ reported_order (take p.settled p.order) → a ≡ reported_with side D (settled_state p.settled rows p.order)
     → accepted_with p.count p.shifts order a p.settled ≡ acceptance side D (state_of rows relations p)
@@ -129,6 +157,7 @@ accepted-result side D rows relations p order a e h f g =
     (g ∙ sym (report-settled side D p.settled rows p.order s same refl))
     ∙ ap₂ (λ n w. accepted_with n p.shifts (reported_order (take p.settled p.order)) (reported_with side D s) w)
     (sym (length-relations_of p.count relations)) (sym (length-take-le p.settled p.order h))
+    ∙ accepted-answer side D s
 
 -- ---- the result after the run
 
@@ -147,6 +176,14 @@ pub record Final (side : Side) (D : ℕ) (rows : List ℤ) (o : Answer.Outcome) 
   pub columns : Columns o.progress.order
   pub all_settled : o.refusal ≡ 0 → (o.done ≡ true) × (o.progress.rows ≡ o.progress.settled)
   pub nonzero : o.refusal ≡ 0 → Nonzero (diagonal side D (settled_state o.progress.settled rows o.progress.order))
+
+abbrev pub FinalIn : Side → ℕ → List ℤ → Std.Result Progress Refusal → Type 0
+FinalIn side D rows r = Std.IfOk r (λ p. Final side D rows (run_answer (Ok p) p))
+
+pub final-in : {side : Side} {D : ℕ} {rows : List ℤ} (left : Progress) (r : Std.Result Progress Refusal) → Final side D rows (run_answer r left)
+    → FinalIn side D rows r
+final-in left (Ok p) h = h
+final-in left (Err r) h = tt
 
 module _ (side : Side) (D : ℕ) (s : State) where
   pub ended-refused : (n : ℕ) (d : Bool) → n ≢ 0 → refusal n ≡ result_after_of side D (outcome_of n d s)
@@ -313,7 +350,7 @@ module _ (side : Side) (z : Sizes) (count : ℕ) (rows relations rows' relations
           (nonzero-of-diagonal side (rank s) z.m (span z) s (triangular e f)))
 
 -- A call by its parts.
-pub call-of : (c : Call) (r : RunResult) (rows relations : List ℤ) → result_of r ≡ c.result → rows ≡ c.row_store
+pub call-of : (c : Call) (r : Std.Result RunReport Refusal) (rows relations : List ℤ) → result_of r ≡ c.result → rows ≡ c.row_store
     → relations ≡ c.relation_store
     → call_of r rows relations ≡ c
 unfolding call_of
@@ -331,7 +368,7 @@ left_after side z (done s) result rows relations rows' relations' n e f g =
 left_after side z (refused k) result rows relations rows' relations' n e f g =
     λ i. record { result = e i; row_store = f i; relation_store = g i }
 
-pub call-after : (side : Side) (z : Sizes) (x : Outcome) (r : RunResult) (rows relations rows' relations' : List ℤ)
+pub call-after : (side : Side) (z : Sizes) (x : Outcome) (r : Std.Result RunReport Refusal) (rows relations rows' relations' : List ℤ)
     → ((s : State) → x ≢ going s) → result_of r ≡ result_after_of side (span z) x → rows' ≡ rows_after_of (equations z) x rows → relations'
     ≡ relations_after_of x relations
     → call_of r rows' relations' ≡ after_run_of side z x rows relations
@@ -350,7 +387,7 @@ call-left side z count rows relations rows' relations' o result e ran f =
     (f ∙ ap (result_after_of side (span z)) ran.reached.outcome) ran.rows-after ran.relations-after
     ∙ ap (after_check side z count rows relations) (sym e)
 
-pub call-run : (side : Side) (z : Sizes) (count : ℕ) (rows relations rows' relations' : List ℤ) (o : Answer.Outcome) (r : RunResult)
+pub call-run : (side : Side) (z : Sizes) (count : ℕ) (rows relations rows' relations' : List ℤ) (o : Answer.Outcome) (r : Std.Result RunReport Refusal)
     → check_stores_of z count rows relations ≡ 0 → RanOn side z count rows relations rows' relations' o
     → result_of r ≡ result_after_of side (span z) (outcome_at rows' relations' o)
     → call_of r rows' relations' ≡ call_run side z count rows relations
@@ -358,9 +395,12 @@ unfolding call_of
 call-run side z count rows relations rows' relations' o r = call-left side z count rows relations rows' relations' o (result_of r)
 
 -- Refusals 1, 2 and 5.
-pub call-refused : (side : Side) (z : Sizes) (count : ℕ) (rows relations : List ℤ) (r : RunResult) (n : ℕ) → n ≢ 0
-    → n ≡ check_stores_of z count rows relations → result_of r ≡ refusal n → call_of r rows relations ≡ call_run side z count rows relations
-unfolding call_run after_check unchanged
-call-refused side z count rows relations r zero h e f = absurd (h refl)
-call-refused side z count rows relations r (suc n) h e f =
-    call-of (unchanged (suc n) rows relations) r rows relations f refl refl ∙ ap (after_check side z count rows relations) e
+pub call-refused : (side : Side) (z : Sizes) (count : ℕ) (rows relations : List ℤ) (r : Refusal) → number_of r ≡ check_stores_of z count rows relations
+    → call_of (Err r) rows relations ≡ call_run side z count rows relations
+unfolding call_run after_check unchanged call_of result_of
+call-refused side z count rows relations r e = go (number_of r) (number-nonzero r) e
+  where
+    go : (n : ℕ) → n ≢ 0 → n ≡ check_stores_of z count rows relations
+        → ◌≡◌ {A = Call} (record { result = refusal n; row_store = rows; relation_store = relations }) (call_run side z count rows relations)
+    go zero h e = absurd (h refl)
+    go (suc n) h e = ap (after_check side z count rows relations) e

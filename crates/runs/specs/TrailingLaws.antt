@@ -27,7 +27,7 @@ use Rattle.stores.specs.Flat.{length-blocks}
 use Rattle.reduction.specs.Progress.{state, state_of, outcome_of, outcome_at, ready_with}
 use Rattle.reduction.specs.Dropping.{freed-none, freed-then, kept_more}
 use Rattle.reduction.specs.Ran.{Ran, run_of, ran-held, ran-kept}
-use Rattle.reduction.specs.declared.step.Outcome as Answer
+use Rattle.reduction.specs.Answer as Answer
 use Rattle.reduction.specs.RunLaws.{enough-rows}
 use Rattle.sides.specs.StoreStates.{kept_same, kept_then}
 use Rattle.sides.specs.MirrorLaws.{change_from, RowsMirrored, RelationsMirrored}

@@ -8,15 +8,18 @@
 -- Main statements
 --   unreported-accepted           what is left of the result of a run that accepts
 --   unreported-left               the whole call
-use Rattle.std.specs.Prelude.{ℕ, ◌≤◌, ◌≡◌, refl, List, ℤ, length, take}
-use Rattle.std.proofs.Common.{sym, ◌∙◌, ap, length-take-le}
+use Rattle.std.specs.Prelude.{ℕ, ◌≤◌, ◌≡◌, refl, List, [], ◌∷◌, ℤ, length, take}
+use Rattle.std.specs.Prelude as Std
+use Rattle.refusals.specs.declared.Refusal.{Refusal}
+use Rattle.refusals.specs.Refusals.{number_of}
+use Rattle.std.proofs.Common.{Ok, Err, sym, ◌∙◌, ap, length-take-le}
 use Rattle.rules.specs.Elimination.{Side, rank}
 use Rattle.rules.specs.Stores.{Sizes, span, check_stores_of}
 use Rattle.rules.specs.Layout.{length-relations_of}
 use Rattle.rules.specs.Calls.{Result, Call, acceptance, reported_order, call_run}
 use Rattle.reduction.specs.Progress.{state_of, outcome_at}
 use Rattle.reduction.specs.declared.step.Progress.{Progress}
-use Rattle.reduction.specs.declared.step.Outcome as Answer
+use Rattle.reduction.specs.Answer as Answer
 use Rattle.runs.specs.declared.Unreported.{Unreported}
 use Rattle.runs.specs.CallLaws.{RanOn, result_after_of, call-left}
 
@@ -37,10 +40,11 @@ unreported_in r = record { refusal = r.refusal; relations = r.relations; order =
 abbrev pub unreported_call : Call → UnreportedCall
 unreported_call c = record { result = unreported_in c.result; row_store = c.row_store; relation_store = c.relation_store }
 
-abbrev pub unreported_of : Unreported → UnreportedResult
-unreported_of r = record { refusal = r.refusal; relations = r.relations; order = r.order; rank = r.rank }
+abbrev pub unreported_of : Std.Result Unreported Refusal → UnreportedResult
+unreported_of (Ok r) = record { refusal = 0; relations = r.relations; order = r.order; rank = r.rank }
+unreported_of (Err r) = record { refusal = number_of r; relations = 0; order = 0 ∷ 0 ∷ 0 ∷ 0 ∷ []; rank = 0 }
 
-abbrev pub unreported_call_of : Unreported → List ℤ → List ℤ → UnreportedCall
+abbrev pub unreported_call_of : Std.Result Unreported Refusal → List ℤ → List ℤ → UnreportedCall
 unreported_call_of r rows relations = record { result = unreported_of r; row_store = rows; relation_store = relations }
 
 pub unreported-accepted : (side : Side) (D : ℕ) (rows relations : List ℤ) (p : Progress) (order : List ℕ)
@@ -53,7 +57,8 @@ unreported-accepted side D rows relations p order h f =
     let few = sym (length-take-le p.settled p.order h) in
     λ i. record { refusal = 0; relations = count i; order = f i; rank = few i }
 
-pub unreported-left : (side : Side) (z : Sizes) (count : ℕ) (rows relations rows' relations' : List ℤ) (o : Answer.Outcome) (r : Unreported)
+pub unreported-left : (side : Side) (z : Sizes) (count : ℕ) (rows relations rows' relations' : List ℤ) (o : Answer.Outcome)
+    (r : Std.Result Unreported Refusal)
     → check_stores_of z count rows relations ≡ 0 → RanOn side z count rows relations rows' relations' o
     → unreported_of r ≡ unreported_in (result_after_of side (span z) (outcome_at rows' relations' o))
     → unreported_call_of r rows' relations' ≡ unreported_call (call_run side z count rows relations)

@@ -2,7 +2,7 @@
 // entry points.
 #![tactic(auto)]
 
-ghost use Rattle.std.specs.Prelude.{◌≡◌, true, List, ℕ, ◌≤◌, T, ℤ, length, take};
+ghost use Rattle.std.specs.Prelude.{◌≡◌, List, ℕ, ◌≤◌, T, ℤ, length, take, IfOk};
 ghost use Rattle.rules.specs.Limits.{column_count, most_equations};
 ghost use Rattle.rules.specs.Elimination as Elimination;
 ghost use Rattle.lists.specs.Tests.{every};
@@ -13,45 +13,26 @@ ghost use Rattle.stores.specs.Validity.{the_sizes_of};
 ghost use Rattle.sides.specs.Lent.{side_of, Within, Listing};
 ghost use Rattle.sides.specs.FurthestRoots.{Nonzero};
 ghost use Rattle.sides.specs.ReportLaws.{settled_state};
-ghost use Rattle.reduction.specs.Progress.{state_of, outcome_at};
+ghost use Rattle.reduction.specs.Progress.{state_of, outcome_in, final_answer};
 ghost use Rattle.reduction.specs.Ran.{Ran};
-ghost use Rattle.runs.specs.CallLaws.{result_of, call_of, result_after_of, Final, RanOn};
+ghost use Rattle.runs.specs.CallLaws.{result_of, call_of, result_after_of, FinalIn, RanOn};
 ghost use Rattle.runs.specs.Unreported.{unreported_of, unreported_in, unreported_call_of, unreported_call};
 
-use reduction::step::SPAN;
+use multiplicities::Root;
+use reduction::step::{Progress, SPAN};
+use refusals::Refusal;
 use sides::Side;
 
-// The number of the refusal or 0, and for a run that accepts: how many relations the store holds, how many shifts were
-// made, the columns of the settled rows, counted from 1, with zeros past the last, whether there is a root, and
-// which, 0 where there is none, the rank, and how often the root occurs in the product of the diagonal polynomials, 0 where there is
-// none (SCOPE 2.82, 2.83, 3.22, 3.23).
-#[derive(Drop)]
+// What a run that accepts has come to: how many relations the store holds, how many shifts were made, the columns of the settled rows,
+// counted from 1, with zeros past the last, the root with how often it occurs in the product of the diagonal polynomials, if there is one, and
+// the rank (SCOPE 2.82, 2.83, 3.22, 3.23).
 #[derive(Clone, Copy)]
-pub struct RunResult {
-    pub refusal: u8,
+pub struct RunReport {
     pub relations: usize,
     pub shifts: usize,
     pub order: [usize; 4],
-    pub has_root: bool,
-    pub root: i64,
+    pub root: Option<Root>,
     pub rank: usize,
-    pub multiplicity: usize,
-}
-
-// A refusal has its number, and 0 in all other fields (SCOPE 6.31).
-pub fn refused(refusal: u8) -> RunResult
-    ensures { result_of result ≡ Calls.refusal refusal }
-{
-    RunResult {
-        refusal,
-        relations: 0,
-        shifts: 0,
-        order: [0; 4],
-        has_root: false,
-        root: 0,
-        rank: 0,
-        multiplicity: 0,
-    }
 }
 
 // Columns counted from 1, zeros past the last (SCOPE 3.23).
@@ -59,35 +40,30 @@ pub fn counted(order: [usize; 4], settled: usize) -> [usize; 4]
     requires { (settled ≤ column_count) × Columns order }
     ensures { result ≡ Calls.reported_order (take settled order) }
 {
-    let mut result = [0usize; 4];
-    let mut j = 0;
-    while j < settled {
+    let mut result = [0; 4];
+    for j in 0..settled {
         result[j] = order[j] + 1;
-        j += 1;
     }
     result
 }
 
 // The result of a run that accepts: the rows that are left are settled, and no diagonal polynomial is zero (SCOPE 2.81, 2.83, 3.22).
-pub fn accepted(rows: &[i64], span: usize, side: Side, p: reduction::step::Progress) -> RunResult
+pub fn accepted(rows: &[i64], span: usize, side: Side, p: Progress) -> RunReport
     requires span_bound { (span ≤ 4) × (p.settled ≤ column_count) × Within (row_need p.settled) rows.now × (p.rows ≡ p.settled) }
     requires order_len { (length p.order ≡ column_count) × Columns p.order }
     requires nonzero { Nonzero (Elimination.diagonal (side_of side) span (settled_state p.settled rows.now p.order)) }
     ensures { (relations : List ℤ)
-        → result_of result ≡ Calls.acceptance (side_of side) span (state_of rows.now relations p) }
+        → result_of (Ok result) ≡ Calls.acceptance (side_of side) span (state_of rows.now relations p) }
 {
     let settled = p.settled;
     let order = p.order;
-    let answer = sides::report::report(rows, settled, order, side, span);
-    RunResult {
-        refusal: 0,
+    let report = sides::report::report(rows, settled, order, side, span);
+    RunReport {
         relations: p.count,
         shifts: p.shifts,
         order: counted(order, settled),
-        has_root: answer.found,
-        root: answer.root,
+        root: report,
         rank: settled,
-        multiplicity: answer.times,
     }
 }
 
@@ -99,21 +75,16 @@ pub fn trailing_run(
     equations: usize,
     span: usize,
     count: usize,
-) -> reduction::step::Outcome
+) -> Result<Progress, Refusal>
     requires { (equations ≤ most_equations) × (span ≤ 4) × Within (row_need equations) rows.old × Listing count relations.old }
-    ensures { Ran equations rows.old relations.old rows.new relations.new result
+    ensures { Ran equations rows.old relations.old rows.new relations.new (final_answer equations result)
         (Elimination.trailing_run_of span (rows_of equations rows.old) (relations_of count relations.old)) }
 {
     sides::mirror::mirror_rows(rows, equations, span);
-    let o = reduction::run::run(rows, relations, equations, Side::Trailing, count, SPAN);
-    let refusal = o.refusal;
-    if refusal != 0 {
-        return o;
-    }
-    let p = o.progress;
+    let p = reduction::run::run(rows, relations, equations, Side::Trailing, count, SPAN)?;
     sides::mirror::mirror_rows(rows, p.rows, span);
     sides::mirror::mirror_relations(relations, count, p.count, span);
-    o
+    Ok(p)
 }
 
 fn whole_run(
@@ -123,10 +94,10 @@ fn whole_run(
     span: usize,
     side: Side,
     count: usize,
-) -> reduction::step::Outcome
+) -> Result<Progress, Refusal>
     requires equations_le_most_equations { (equations ≤ most_equations) × (span ≤ 4) × Within (row_need equations) rows.old × Listing count relations.old }
     requires t { T (every (unused_zero_of column_count span) (rows_of equations rows.old)) }
-    ensures { Ran equations rows.old relations.old rows.new relations.new result
+    ensures { Ran equations rows.old relations.old rows.new relations.new (final_answer equations result)
         (Elimination.whole_run_of (side_of side) span (rows_of equations rows.old) (relations_of count relations.old)) }
 {
     match side {
@@ -148,18 +119,14 @@ pub fn ended(
     rows: &[i64],
     sizes: stores::validity::Sizes,
     side: Side,
-    o: reduction::step::Outcome,
-) -> RunResult
-    requires { T (sizes_right_of (the_sizes_of sizes)) × Final (side_of side) (span (the_sizes_of sizes)) rows.now o }
+    run: Result<Progress, Refusal>,
+) -> Result<RunReport, Refusal>
+    requires { T (sizes_right_of (the_sizes_of sizes)) × FinalIn (side_of side) (span (the_sizes_of sizes)) rows.now run }
     ensures { (relations : List ℤ)
-        → result_of result ≡ result_after_of (side_of side) (span (the_sizes_of sizes)) (outcome_at rows.now relations o) }
+        → result_of result ≡ result_after_of (side_of side) (span (the_sizes_of sizes)) (outcome_in rows.now relations run) }
 {
-    let refusal = o.refusal;
-    if refusal != 0 {
-        return refused(refusal);
-    }
-    let p = o.progress;
-    accepted(rows, stores::validity::span(sizes), side, p)
+    let p = run?;
+    Ok(accepted(rows, stores::validity::span(sizes), side, p))
 }
 
 // A run on stores that pass the checks, and how it ended.
@@ -169,10 +136,10 @@ fn checked_run(
     sizes: stores::validity::Sizes,
     count: usize,
     side: Side,
-) -> reduction::step::Outcome
+) -> Result<Progress, Refusal>
     requires { check_stores_of (the_sizes_of sizes) count rows.old relations.old ≡ 0 }
     ensures { RanOn (side_of side) (the_sizes_of sizes) count rows.old relations.old rows.new
-        relations.new result }
+        relations.new (final_answer sizes.equations result) }
 {
     let equations = sizes.equations;
     let span = stores::validity::span(sizes);
@@ -186,52 +153,35 @@ pub fn called(
     sizes: stores::validity::Sizes,
     count: usize,
     side: Side,
-) -> RunResult
+) -> Result<RunReport, Refusal>
     ensures { call_of result rows.new relations.new
         ≡ Calls.call_run (side_of side) (the_sizes_of sizes) count rows.old relations.old }
 {
-    let refusal = stores::validity::check_stores(rows, relations, sizes, count);
-    if refusal != 0 {
-        return refused(refusal);
-    }
-    let o = checked_run(rows, relations, sizes, count, side);
-    ended(rows, sizes, side, o)
+    stores::validity::check_stores(rows, relations, sizes, count)?;
+    let run = checked_run(rows, relations, sizes, count, side);
+    ended(rows, sizes, side, run)
 }
 
-// A result without the shifts and the root report, which no sheet says (SCOPE 5.14).
-#[derive(Drop)]
+// What a run that accepts has come to, without the shifts and the root report, which no sheet says (SCOPE 5.14).
+#[derive(Clone, Copy)]
 pub struct Unreported {
-    pub refusal: u8,
     pub relations: usize,
     pub order: [usize; 4],
     pub rank: usize,
 }
 
 // That of a run that has ended.
-fn without_report(o: reduction::step::Outcome) -> Unreported
-    requires settled_le_column_count { (o.progress.settled ≤ column_count) × (length o.progress.order ≡ column_count) × Columns o.progress.order }
-    requires done_value { o.refusal ≡ 0 → o.done ≡ true }
+fn without_report(run: Result<Progress, Refusal>) -> Result<Unreported, Refusal>
+    requires { IfOk run (λ p. (p.settled ≤ column_count) × (length p.order ≡ column_count) × Columns p.order × (p.rows ≤ p.settled)) }
     ensures { (side : Elimination.Side) (D : ℕ) (rows relations : List ℤ)
-        → unreported_of result ≡ unreported_in (result_after_of side D (outcome_at rows relations o)) }
+        → unreported_of result ≡ unreported_in (result_after_of side D (outcome_in rows relations run)) }
 {
-    let refusal = o.refusal;
-    if refusal != 0 {
-        return Unreported {
-            refusal,
-            relations: 0,
-            order: [0; 4],
-            rank: 0,
-        };
-    }
-    let p = o.progress;
-    let settled = p.settled;
-    let order = p.order;
-    Unreported {
-        refusal: 0,
+    let p = run?;
+    Ok(Unreported {
         relations: p.count,
-        order: counted(order, settled),
-        rank: settled,
-    }
+        order: counted(p.order, p.settled),
+        rank: p.settled,
+    })
 }
 
 // A run on the leading side, on stores that pass the checks, for a caller that wants no report.
@@ -240,11 +190,11 @@ pub fn leading_run(
     relations: &mut [i64],
     sizes: stores::validity::Sizes,
     count: usize,
-) -> Unreported
+) -> Result<Unreported, Refusal>
     requires { check_stores_of (the_sizes_of sizes) count rows.old relations.old ≡ 0 }
     ensures { unreported_call_of result rows.new relations.new
         ≡ unreported_call (Calls.call_run Elimination.leading (the_sizes_of sizes) count rows.old relations.old) }
 {
-    let o = checked_run(rows, relations, sizes, count, Side::Leading);
-    without_report(o)
+    let run = checked_run(rows, relations, sizes, count, Side::Leading);
+    without_report(run)
 }

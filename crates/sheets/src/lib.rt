@@ -8,12 +8,12 @@ ghost use Rattle.stores.specs.Validity.{the_sizes_of};
 ghost use Rattle.reading.specs.ReadCalls as ReadCalls;
 ghost use Rattle.writing.specs.WriterChecks.{call_of};
 
-pub use reading::sheet::SheetResult;
-pub use writing::writer::WriteResult;
+pub use reading::sheet::Sheet;
+use refusals::Refusal;
 
 // A sheet read into lent stores. On a refusal they are unchanged (SCOPE 4.43); numbers past the needed part stay
 // (SCOPE 3.12).
-pub fn read_sheet(bytes: &[u8], rows: &mut [i64], relations: &mut [i64]) -> SheetResult
+pub fn read_sheet(bytes: &[u8], rows: &mut [i64], relations: &mut [i64]) -> Result<Sheet, Refusal>
     ensures { ReadCalls.call_of result rows.new relations.new
         ≡ read_call bytes.now rows.old relations.old }
 {
@@ -21,7 +21,7 @@ pub fn read_sheet(bytes: &[u8], rows: &mut [i64], relations: &mut [i64]) -> Shee
 }
 
 // The system of the stores and its column order as a sheet: the order's four numbers are different columns of 1..m and zeros
-// past them, all four 0 for none (SCOPE 4.53). Nothing is written on a refusal (SCOPE 4.54), and bytes past
+// past them, all four 0 for none (SCOPE 4.53). The length of the sheet; nothing is written on a refusal (SCOPE 4.54), and bytes past
 // the length stay (SCOPE 4.51).
 pub fn write_sheet(
     rows: &[i64],
@@ -30,7 +30,7 @@ pub fn write_sheet(
     count: usize,
     order: [usize; 4],
     bytes: &mut [u8],
-) -> WriteResult
+) -> Result<usize, Refusal>
     ensures { call_of result bytes.new
         ≡ write_call (the_sizes_of sizes) count order rows.now relations.now bytes.old }
 {

@@ -6,9 +6,12 @@
 --   Nonzero ps             no polynomial of ps is zero
 --   times_in ps o           how often the root o occurs in the polynomials ps, all together; 0 where it is missing
 --   furthest_with_of side ps   the furthest root of all roots of ps, with its times
---   further_with side a b   of two answers the one with the further root; where the roots are the same their times add up
+--   answer o n             a root or none, as the code gives it, with n as its times; times_of a the times of an answer, 0 where there is no root
+--   of_both side a b       the further of two roots; where they are the same their times add up
+--   further_with side a b   the same of two answers
 --
 -- Main statements
+--   both-same, second-further, first-further   which of two roots is further, by the tests that tell it
 --   furthest-append        the furthest of two lists is the further of their furthest
 --   no-times               what is no root of any of them occurs not at all
 --   further-with           the answer for two lists of nonzero polynomials together
@@ -16,11 +19,13 @@
 --   further-times          its times are at most those of both
 use Rattle.std.specs.Prelude.{ℕ, ◌+◌, ◌≤◌, ◌≡◌, ◌≢◌, Bool, not, T, ℤ, ◌-ℤ◌, length, ◌≤ℤ◌}
 use Rattle.std.proofs.Common.{zero-le, eq-zero-or-pos, arith, sym, ◌∙◌, subst, ⊎_elim, true≢false}
-use Rattle.std.proofs.Math.Path.{refl, ap, ap₂}
+use Rattle.std.proofs.Math.Path.{refl, ap}
 use Rattle.std.proofs.Math.Bool.{true, false, cond, not-not}
 use mathlib.Core.List.Memᴰ
 use mathlib.Core.List.{List, [], ◌∷◌, ◌++◌, map, flatten, append-nil, map-append, Memᴰ}
 use Rattle.std.proofs.Math.Option.{Option, none, some}
+use Rattle.std.specs.Prelude as Prelude
+use Rattle.std.specs.Prelude.{None, Some}
 use Rattle.std.proofs.Math.IntN.{+ℤ_invr}
 use Rattle.std.specs.Int.Signed.{le_z, le_z_yes}
 use Rattle.lists.specs.Everywhere.{All}
@@ -33,10 +38,9 @@ use Rattle.algebra.specs.Polynomials.{Polynomial, is_zero_of, is_zero_ℤ, is_ze
 use Rattle.algebra.specs.Multiplicity.{multiplicity, multiplicity-root}
 use Rattle.algebra.specs.Roots.{roots, roots-complete, place}
 use Rattle.rules.specs.Elimination.{Side, leading, trailing, further, furthest}
-use Rattle.rules.specs.Calls.{root_found, root_value}
 use Rattle.theory.specs.Report.{NoFurther, furthest-none, furthest-some}
-use Rattle.multiplicities.specs.declared.RootWith.{RootWith}
-use Rattle.multiplicities.specs.Counts.{answered_with}
+use Rattle.multiplicities.specs.declared.Root.{Root}
+use Rattle.multiplicities.specs.Counts.{root_of, answered_with}
 use Rattle.multiplicities.specs.Divisions.{multiplicity-most}
 
 -- ---- the furthest of two lists
@@ -127,12 +131,13 @@ NoFurther-antisym trailing a b h k = ≤ℤ-antisym k h
 abbrev pub Nonzero : List Polynomial → Type 0
 Nonzero ps = All (λ p. T (not (is_zero_of p))) ps
 
-pub answered-most : (p : Polynomial) (o : Option ℤ) → (answered_with p o).times ≤ length p
-answered-most p o = cases (root_found o)
-  where
-    cases : (t : Bool) → cond t (multiplicity p (root_value o)) 0 ≤ length p
-    cases true = multiplicity-most p (root_value o)
-    cases false = zero-le
+abbrev pub times_of : Prelude.Option Root → ℕ
+times_of None = 0
+times_of (Some r) = r.times
+
+pub answered-most : (p : Polynomial) (o : Option ℤ) → times_of (answered_with p o) ≤ length p
+answered-most p none = zero-le
+answered-most p (some r) = multiplicity-most p r
 
 -- All their roots.
 abbrev pub roots_of : List Polynomial → List ℤ
@@ -165,10 +170,11 @@ no-times (p ∷ ps) n r h =
 
 -- ---- answers
 
-abbrev answer : Option ℤ → ℕ → RootWith
-answer o n = record { found = root_found o; root = root_value o; times = n }
+abbrev pub answer : Option ℤ → ℕ → Prelude.Option Root
+answer none n = None
+answer (some r) n = Some (root_of (r, n))
 
-abbrev pub furthest_with_of : Side → List Polynomial → RootWith
+abbrev pub furthest_with_of : Side → List Polynomial → Prelude.Option Root
 furthest_with_of side ps = answer (furthest side (roots_of ps)) (times_in ps (furthest side (roots_of ps)))
 
 unfoldable pub same_root : ℤ → ℤ → Bool
@@ -194,58 +200,48 @@ no_member : {l : List ℤ} {r : ℤ} → l ≡ [] → Memᴰ r l → ⊥
 no_member e k = Memᴰ.not-nil (rw e at k)
 
 -- Both have the same root.
-abbrev pub together : RootWith → RootWith → RootWith
-together a b = record { found = a.found; root = a.root; times = a.times + b.times }
+abbrev pub together : Root → Root → Root
+together a b = record { value = a.value; times = a.times + b.times }
 
 -- Of two roots.
-abbrev of_both : Side → RootWith → RootWith → RootWith
-of_both side a b = cond (same_root a.root b.root) (together a b) (cond (is_beyond_of side a.root b.root) b a)
-
-unfoldable pub further_with : Side → RootWith → RootWith → RootWith
+unfoldable pub of_both : Side → Root → Root → Root
 unfolding is_beyond_of same_root
-further_with side a b = cond a.found (cond b.found (of_both side a b) a) b
+of_both side a b = cond (same_root a.value b.value) (together a b) (cond (is_beyond_of side a.value b.value) b a)
+
+abbrev pub further_with : Side → Prelude.Option Root → Prelude.Option Root → Prelude.Option Root
+further_with side None o = o
+further_with side (Some a) None = Some a
+further_with side (Some a) (Some b) = Some (of_both side a b)
 
 -- By the tests that tell it.
-module _ (side : Side) (a b : RootWith) where
-  pub first-missing : a.found ≡ false → b ≡ further_with side a b
-  unfolding further_with
-  first-missing e = ap (λ t. cond t (cond b.found (of_both side a b) a) b) (sym e)
+module _ (side : Side) (a b : Root) where
+  pub both-same : a.value ≡ b.value → together a b ≡ of_both side a b
+  unfolding of_both
+  both-same h = ap (λ t. cond t (together a b) (cond (is_beyond_of side a.value b.value) b a)) (sym (same-root a.value b.value h))
 
-  pub second-missing : a.found ≡ true → b.found ≡ false → a ≡ further_with side a b
-  unfolding further_with
-  second-missing e f = ap₂ (λ s t. cond s (cond t (of_both side a b) a) b) (sym e) (sym f)
+  apart : a.value ≢ b.value → cond (is_beyond_of side a.value b.value) b a ≡ of_both side a b
+  unfolding of_both
+  apart n = ap (λ t. cond t (together a b) (cond (is_beyond_of side a.value b.value) b a)) (sym (other-root a.value b.value n))
 
-  of-both : a.found ≡ true → b.found ≡ true → of_both side a b ≡ further_with side a b
-  unfolding further_with
-  of-both e f = ap₂ (λ s t. cond s (cond t (of_both side a b) a) b) (sym e) (sym f)
+  pub second-further : a.value ≢ b.value → is_beyond_of side a.value b.value ≡ true → b ≡ of_both side a b
+  second-further n t = ap (λ u. cond u b a) (sym t) ∙ apart n
 
-  module _ (e : a.found ≡ true) (f : b.found ≡ true) where
-    pub both-same : a.root ≡ b.root → together a b ≡ further_with side a b
-    both-same h =
-        ap (λ t. cond t (together a b) (cond (is_beyond_of side a.root b.root) b a)) (sym (same-root a.root b.root h))
-        ∙ of-both e f
+  pub first-further : a.value ≢ b.value → is_beyond_of side a.value b.value ≡ false → a ≡ of_both side a b
+  first-further n t = ap (λ u. cond u b a) (sym t) ∙ apart n
 
-    apart : a.root ≢ b.root → cond (is_beyond_of side a.root b.root) b a ≡ further_with side a b
-    apart n =
-        ap (λ t. cond t (together a b) (cond (is_beyond_of side a.root b.root) b a)) (sym (other-root a.root b.root n))
-        ∙ of-both e f
+  of_both-times : (of_both side a b).times ≤ a.times + b.times
+  unfolding of_both
+  of_both-times = cases (same_root a.value b.value) (is_beyond_of side a.value b.value)
+    where
+      cases : (u v : Bool) → (cond u (together a b) (cond v b a)).times ≤ a.times + b.times
+      cases true v = omega arith
+      cases false true = omega arith
+      cases false false = omega arith
 
-    pub second-further : a.root ≢ b.root → is_beyond_of side a.root b.root ≡ true → b ≡ further_with side a b
-    second-further n t = ap (λ u. cond u b a) (sym t) ∙ apart n
-
-    pub first-further : a.root ≢ b.root → is_beyond_of side a.root b.root ≡ false → a ≡ further_with side a b
-    first-further n t = ap (λ u. cond u b a) (sym t) ∙ apart n
-
-pub further-times : (side : Side) (a b : RootWith) → (further_with side a b).times ≤ a.times + b.times
-unfolding further_with
-further-times side a b = cases a.found b.found (same_root a.root b.root) (is_beyond_of side a.root b.root)
-  where
-    cases : (s t u v : Bool) → (cond s (cond t (cond u (together a b) (cond v b a)) a) b).times ≤ a.times + b.times
-    cases true true true v = omega arith
-    cases true true false true = omega arith
-    cases true true false false = omega arith
-    cases true false u v = omega arith
-    cases false t u v = omega arith
+pub further-times : (side : Side) (a b : Prelude.Option Root) → times_of (further_with side a b) ≤ times_of a + times_of b
+further-times side None b = omega arith
+further-times side (Some a) None = omega arith
+further-times side (Some a) (Some b) = of_both-times side a b
 
 module _ (side : Side) (ps qs : List Polynomial) (m : Nonzero ps) (n : Nonzero qs) where
   both : (r : ℤ) → times_in (ps ++ qs) (some r) ≡ times_in ps (some r) + times_in qs (some r)
@@ -262,44 +258,43 @@ module _ (side : Side) (ps qs : List Polynomial) (m : Nonzero ps) (n : Nonzero q
 
   -- Where both have a root.
   module _ (a b : ℤ) (e : furthest side (roots_of ps) ≡ some a) (f : furthest side (roots_of qs) ≡ some b) where
-    abbrev first : RootWith
-    first = answer (some a) (times_in ps (some a))
+    abbrev first : Root
+    first = root_of (a, times_in ps (some a))
 
-    abbrev second : RootWith
-    second = answer (some b) (times_in qs (some b))
+    abbrev second : Root
+    second = root_of (b, times_in qs (some b))
 
-    abbrev all : ℤ → RootWith
-    all r = answer (some r) (times_in (ps ++ qs) (some r))
+    abbrev all : ℤ → Root
+    all r = root_of (r, times_in (ps ++ qs) (some r))
 
     by_tests : (s t : Bool) → same_root a b ≡ s → is_beyond_of side a b ≡ t
         → cond s (together first second) (cond t second first) ≡ all (cond t b a)
-    unfolding root_found root_value
     by_tests true true s t =
-        ap (λ r. record { found = true; root = r; times = times_in ps (some r) + times_in qs (some b) }) (same_of a b s)
-        ∙ ap (answer (some b)) (sym (both b))
+        ap (λ r. root_of (r, times_in ps (some r) + times_in qs (some b))) (same_of a b s)
+        ∙ ap (λ n. root_of (b, n)) (sym (both b))
     by_tests true false s t =
-        ap (λ r. record { found = true; root = a; times = times_in ps (some a) + times_in qs (some r) }) (sym (same_of a b s))
-        ∙ ap (answer (some a)) (sym (both a))
+        ap (λ r. root_of (a, times_in ps (some a) + times_in qs (some r))) (sym (same_of a b s))
+        ∙ ap (λ n. root_of (a, n)) (sym (both a))
     by_tests false true s t =
-        ap (answer (some b)) (omega (arith, both b, none_before b e (apart_of a b s) (beyond-yes side a b t)))
+        ap (λ n. root_of (b, n)) (omega (arith, both b, none_before b e (apart_of a b s) (beyond-yes side a b t)))
     by_tests false false s t =
-        ap (answer (some a)) (omega (arith, both a, none-behind a f (λ h. apart_of a b s (sym h)) (beyond-no side a b t)))
+        ap (λ n. root_of (a, n)) (omega (arith, both a, none-behind a f (λ h. apart_of a b s (sym h)) (beyond-no side a b t)))
 
     of_two : of_both side first second ≡ all (further side a (some b))
-    unfolding root_found root_value
+    unfolding of_both
     of_two = by_tests (same_root a b) (is_beyond_of side a b) refl refl ∙ ap all (sym (further-one side a b))
 
   -- The answers for both lists give that for all.
   with_cases : (o u : Option ℤ) → furthest side (roots_of ps) ≡ o → furthest side (roots_of qs) ≡ u
       → further_with side (answer o (times_in ps o)) (answer u (times_in qs u))
       ≡ answer (further_of side o u) (times_in (ps ++ qs) (further_of side o u))
-  unfolding further_with further_of further root_found root_value times_in
+  unfolding further_of further times_in
   with_cases none none e f = refl
   with_cases none (some b) e f =
       ap (answer (some b)) (omega (arith, both b, no-times ps m b (no_member ((furthest-none side (roots_of ps)).0 e))))
   with_cases (some a) none e f =
       ap (answer (some a)) (omega (arith, both a, no-times qs n a (no_member ((furthest-none side (roots_of qs)).0 f))))
-  with_cases (some a) (some b) e f = of_two a b e f
+  with_cases (some a) (some b) e f = ap Some (of_two a b e f)
 
   pub further-with : further_with side (furthest_with_of side ps) (furthest_with_of side qs) ≡ furthest_with_of side (ps ++ qs)
   further-with =
@@ -314,7 +309,7 @@ module _ (side : Side) (ps qs : List Polynomial) (m : Nonzero ps) (n : Nonzero q
 
 -- Of one polynomial.
 furthest-single : (side : Side) (p : Polynomial) → answered_with p (furthest side (roots p)) ≡ furthest_with_of side (p ∷ [])
-unfolding flatten root_found root_value times_in total
+unfolding flatten times_in total
 furthest-single side p =
     single (furthest side (roots p))
     ∙ ap (λ l. answer (furthest side l) (times_in (p ∷ []) (furthest side l))) (sym (append-nil (roots p)))

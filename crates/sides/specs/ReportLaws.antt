@@ -5,6 +5,7 @@
 --   reported_with side D s        the root report, and how often its root occurs in the diagonal polynomials
 --
 -- Main statements
+--   answer-found, answer-root, answer-times   what an answer says in three numbers
 --   diagonal-settled, report-settled   the diagonal and the report depend on the rows and on their columns alone
 --   report-next, report-all   the report over one row more, and over all rows
 use Rattle.std.specs.Prelude.{ℕ, ◌+◌, ◌*◌, ◌-◌, ◌≤◌, ◌<◌, ◌≡◌, refl, not, ℤ, length, take, drop}
@@ -13,6 +14,8 @@ use native.Mathlib.Omega.{arith}
 use Rattle.std.proofs.Math.Path.{ap, ap₂, subst}
 use mathlib.Core.List.{List, [], zip_with}
 use Rattle.std.proofs.Math.Option.{Option, none, some}
+use Rattle.std.specs.Prelude as Prelude
+use Rattle.std.specs.Prelude.{is_some, unwrap_or}
 use Rattle.std.proofs.Math.Dec.{T}
 use Rattle.std.proofs.Math.ListN.{get_or}
 use Rattle.algebra.specs.Polynomials.{Polynomial, is_zero_of}
@@ -26,31 +29,45 @@ use Rattle.rules.specs.Stores.{rows_of, row_need}
 use Rattle.lists.specs.Images.{length-zip_with, get_or-zip_with}
 use Rattle.rules.specs.Layout.{length-rows_of, polynomial-at}
 use Rattle.rules.specs.Calls.{root_found, root_value}
-use Rattle.multiplicities.specs.declared.RootWith.{RootWith}
-use Rattle.multiplicities.specs.Counts.{answered_with}
+use Rattle.multiplicities.specs.declared.Root.{Root}
+use Rattle.multiplicities.specs.Counts.{no_root, answered_with}
 use Rattle.stores.specs.Flat.{part_count}
 use Rattle.working_rows.specs.Found.{Columns, Columns-at}
 use Rattle.sides.specs.Lent.{Within}
 use Rattle.sides.specs.StoreStates.{part_small}
-use Rattle.sides.specs.FurthestRoots.{Nonzero, roots_of, times_in, furthest_with_of, further_with, further-one-more}
+use Rattle.sides.specs.FurthestRoots.{Nonzero, roots_of, times_in, answer, furthest_with_of, further_with, further-one-more}
 
 -- ---- the diagonal polynomials in the store
 
 abbrev pub settled_state : ℕ → List ℤ → List ℕ → State
 settled_state settled store order = record { rows = rows_of settled store; relations = []; order = take settled order; shifts = 0 }
 
-abbrev with_times_of : Option ℤ → ℕ → RootWith
-with_times_of o n = record { found = root_found o; root = root_value o; times = n }
+abbrev pub reported_with : Side → ℕ → State → Prelude.Option Root
+reported_with side D s = answer (report side D s) (reported_times side D s (report side D s))
 
-abbrev pub reported_with : Side → ℕ → State → RootWith
-reported_with side D s = with_times_of (report side D s) (reported_times side D s (report side D s))
+-- What an answer says in three numbers: whether there is a root, which and how often; zeros where there is none.
+pub answer-found : (o : Option ℤ) (n : ℕ) → is_some (answer o n) ≡ root_found o
+unfolding root_found
+answer-found none n = refl
+answer-found (some r) n = refl
+
+pub answer-root : (o : Option ℤ) (n : ℕ) → (unwrap_or (answer o n) no_root).value ≡ root_value o
+unfolding root_value
+answer-root none n = refl
+answer-root (some r) n = refl
+
+pub answer-times : (side : Side) (D : ℕ) (s : State) (o : Option ℤ)
+    → (unwrap_or (answer o (reported_times side D s o)) no_root).times ≡ reported_times side D s o
+unfolding reported_times
+answer-times side D s none = refl
+answer-times side D s (some r) = refl
 
 -- It is the furthest root of the diagonal polynomials with its times.
 reported-with : (side : Side) (D : ℕ) (s : State) → furthest_with_of side (diagonal side D s) ≡ reported_with side D s
 unfolding report reported_times occurrences times_in
 reported-with side D s = same (furthest side (roots_of (diagonal side D s)))
   where
-    same : (o : Option ℤ) → with_times_of o (times_in (diagonal side D s) o) ≡ with_times_of o (reported_times side D s o)
+    same : (o : Option ℤ) → answer o (times_in (diagonal side D s) o) ≡ answer o (reported_times side D s o)
     same none = refl
     same (some r) = refl
 
@@ -86,7 +103,7 @@ module _ (side : Side) (D settled : ℕ) (store : List ℤ) (order : List ℕ) w
   diagonals = diagonal side D (settled_state settled store order)
 
   -- The furthest root of the first j diagonal polynomials, with its times.
-  abbrev pub reported : ℕ → RootWith
+  abbrev pub reported : ℕ → Prelude.Option Root
   reported j = furthest_with_of side (take j diagonals)
 
 module _ (side : Side) (D settled : ℕ) (store : List ℤ) (order : List ℕ) (enough : settled ≤ length order) where

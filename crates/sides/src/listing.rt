@@ -24,28 +24,24 @@ fn save_relation(relations: &mut [i64], k: usize, n0: i64, row: &[i64])
 
 // On the trailing side from the largest root down, so that n0 as given back ascends (SCOPE 2.33).
 fn root_at(found: RootsWith, side: Side, k: usize) -> i64
-    requires { (k < found.count) × (found.count ≤ 16) × (length found.values ≡ 16) }
+    requires { (k < found.count) × (found.count ≤ 16) × (length found.roots ≡ 16) }
     ensures { result ≡ get_or (listing (side_of side) (roots_held found)) k (pos 0) }
 {
-    let values = found.values;
     let n = found.count;
     match side {
-        Side::Leading => values[k],
-        Side::Trailing => values[n - 1 - k],
+        Side::Leading => found.roots[k].value,
+        Side::Trailing => found.roots[n - 1 - k].value,
     }
 }
 
 // A relation for each of the roots of g, once however often it occurs: the row at it, from place `count` on
 // (SCOPE 2.3, 2.31).
 pub fn list_roots(relations: &mut [i64], count: usize, found: RootsWith, side: Side, row: &[i64])
-    requires listing { Listing count relations.old × (count + found.count ≤ 16) × (length found.values ≡ 16) }
+    requires listing { Listing count relations.old × (count + found.count ≤ 16) × (length found.roots ≡ 16) }
     requires t { T (every small (roots_held found)) × T (every small row.now) × (length row.now ≡ row_length) }
     ensures { Relisted count row.now (listing (side_of side) (roots_held found)) relations.old relations.new }
 {
-    let n = found.count;
-    let mut k = 0;
-    while k < n {
+    for k in 0..found.count {
         save_relation(relations, count + k, root_at(found, side, k), row);
-        k += 1;
     }
 }

@@ -27,11 +27,9 @@ pub fn mirror_rows(store: &mut [i64], equations: usize, span: usize)
     requires { (span ≤ 4) × Within (row_need equations) store.old }
     ensures { RowsMirrored equations span store.old store.new }
 {
-    let mut i = 0;
-    while i < equations {
+    for i in 0..equations {
         let at = i * ROW;
         mirror_row(store, at, span);
-        i += 1;
     }
 }
 
@@ -40,12 +38,10 @@ pub fn mirror_relations(store: &mut [i64], from: usize, count: usize, span: usiz
     requires { (span ≤ 4) × (from ≤ count) × Listing count store.old }
     ensures { RelationsMirrored from count span store.old store.new }
 {
-    let mut k = from;
-    while k < count {
+    for k in from..count {
         let at = k * RELATION;
         store[at] = integers::negated(store[at]);
         let row = at + 1;
         mirror_row(store, row, span);
-        k += 1;
     }
 }

@@ -8,11 +8,11 @@ ghost use Rattle.rules.specs.Elimination as Elimination;
 ghost use Rattle.multiplicities.specs.Counts.{answered_with};
 ghost use Rattle.working_rows.specs.Found.{Columns};
 ghost use Rattle.sides.specs.Lent.{side_of, Within};
-ghost use Rattle.sides.specs.FurthestRoots.{Nonzero, is_beyond_of, further_with};
+ghost use Rattle.sides.specs.FurthestRoots.{Nonzero, is_beyond_of, times_of, further_with};
 ghost use Rattle.sides.specs.ReportLaws.{settled_state, diagonal_at_of, reported_with};
 
 use crate::Side;
-use multiplicities::RootWith;
+use multiplicities::Root;
 use polynomials::lengths::COEFFICIENTS;
 use stores::lengths::{BLOCK, COLUMNS, ROW};
 
@@ -27,21 +27,22 @@ fn is_beyond(a: i64, b: i64, side: Side) -> bool
 }
 
 // The further of two answers. A root that both give occurs as often as in both.
-fn further(a: RootWith, b: RootWith, side: Side) -> RootWith
-    requires { (a.times ≤ bound) × (b.times ≤ bound) }
+fn further(a: Option<Root>, b: Option<Root>, side: Side) -> Option<Root>
+    requires { (times_of a ≤ bound) × (times_of b ≤ bound) }
     ensures { result ≡ further_with (side_of side) a b }
 {
-    if !a.found {
-        b
-    } else if !b.found {
-        a
-    } else if a.root == b.root {
-        RootWith {
-            found: a.found,
-            root: a.root,
-            times: a.times + b.times,
-        }
-    } else if is_beyond(a.root, b.root, side) {
+    let Some(first) = a else {
+        return b;
+    };
+    let Some(second) = b else {
+        return a;
+    };
+    if first.value == second.value {
+        Some(Root {
+            value: first.value,
+            times: first.times + second.times,
+        })
+    } else if is_beyond(first.value, second.value, side) {
         b
     } else {
         a
@@ -49,7 +50,7 @@ fn further(a: RootWith, b: RootWith, side: Side) -> RootWith
 }
 
 // The largest root of a polynomial with how often it occurs, on the trailing side the smallest.
-fn furthest_with(p: &[i64], side: Side) -> RootWith
+fn furthest_with(p: &[i64], side: Side) -> Option<Root>
     requires { (length p.now ≡ coefficient_count) × T (every small p.now) }
     ensures { result ≡ answered_with p.now (Elimination.furthest (side_of side) (roots p.now)) }
 {
@@ -72,7 +73,7 @@ pub fn diagonal_at(j: usize, column: usize, side: Side, span: usize) -> usize
 }
 
 // The greatest integer at which a diagonal polynomial of the output vanishes, if there is one (SCOPE 2.81); on the
-// trailing side the least (SCOPE 2.93). Beside it stands how often it occurs in all of them together, 0 with "no" (SCOPE 2.83). The
+// trailing side the least (SCOPE 2.93). With it stands how often it occurs in all of them together (SCOPE 2.83). The
 // output has a row for each settled column, and no diagonal polynomial is zero.
 pub fn report(
     store: &[i64],
@@ -80,22 +81,16 @@ pub fn report(
     order: [usize; COLUMNS],
     side: Side,
     span: usize,
-) -> RootWith
+) -> Option<Root>
     requires settled_le_column_count { (settled ≤ column_count) × (span ≤ 4) × Columns order × Within (row_need settled) store.now }
     requires nonzero { Nonzero (Elimination.diagonal (side_of side) span (settled_state settled store.now order)) }
     ensures { result ≡ reported_with (side_of side) span (settled_state settled store.now order) }
 {
-    let mut answer = RootWith {
-        found: false,
-        root: 0,
-        times: 0,
-    };
-    let mut j = 0;
-    while j < settled {
-        let from = diagonal_at(j, order[j], side, span);
+    let mut answer = None;
+    for (j, column) in order[..settled].iter().enumerate() {
+        let from = diagonal_at(j, *column, side, span);
         let to = from + COEFFICIENTS;
         answer = further(answer, furthest_with(&store[from..to], side), side);
-        j += 1;
     }
     answer
 }

@@ -2,7 +2,7 @@
 -- means.
 --
 -- Main statements
---   reports-refused         a limit that a part passes is what all of it passes
+--   reports-refused, refused-on   a limit that a part passes is what all of it passes
 --   rows-small, rows-count  the constant rows: within ±C, and how many there are
 --   rest, left, sound       what follows the rows, and what follows their elimination; the settled rows
 use Rattle.std.specs.Prelude.{ℕ, suc, ◌+◌, ◌*◌, ◌≡◌, refl, ◌≢◌, Bool, true, false, cond, length, ℤ}
@@ -36,6 +36,10 @@ pub reports-refused : {A B : Type 0} (P : A → Type 0) (Q : B → Type 0) (j : 
     → Reports Q (and_on j k) n
 unfolding and_on
 reports-refused P Q j k n h e = passed-reports Q (and_on j k) n (ap (λ i. and_on i k) (reports-passed P j n h e))
+
+pub refused-on : {A B : Type 0} (j : Judged A) (k : A → Judged B) (n : ℕ) → j ≡ passed n → and_on j k ≡ passed n
+unfolding and_on
+refused-on j k n e = ap (λ i. and_on i k) e
 
 -- ---- the numbers of the constant rows
 

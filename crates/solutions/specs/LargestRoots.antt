@@ -4,74 +4,58 @@
 --   option_of r             the root that an answer has, if there is one
 --
 -- Main statements
---   option-of, answered-option, option_of-found, option_of-missing   an answer and its root
+--   option-of, answered-option   an answer and its root
 --   first-missing, second-missing, second-larger, first-larger     the larger of two answers, by the tests that tell it
 --   furthest-more          one list of roots more
 --   diagonals-small        the diagonal polynomials are within ±C as the store is
 use Rattle.std.specs.Prelude.{ℕ, ◌≤◌, ◌<◌, ◌≡◌, true, false, cond, T, ℤ, length}
 use Rattle.std.proofs.Common.{sym, ◌∙◌, subst}
-use Rattle.std.proofs.Math.Path.{ap, ap₂}
+use Rattle.std.proofs.Math.Path.{ap}
 use mathlib.Core.List.{List, [], ◌∷◌, ◌++◌, map, map-append, flatten, append-nil}
 use Rattle.std.proofs.Math.Option.{Option, none, some}
+use Rattle.std.specs.Prelude as Prelude
+use Rattle.std.specs.Prelude.{None, Some, refl}
 use Rattle.std.specs.Int.Signed.{le_z}
 use Rattle.lists.specs.Everywhere.{All, get_or-all}
 use Rattle.lists.specs.Joined.{flatten-append}
 use Rattle.lists.specs.Tests.{every}
 use Rattle.rules.specs.Limits.{small, most_span}
 use Rattle.rules.specs.Stores.{row_need}
-use Rattle.rules.specs.Calls.{root_found, root_value}
 use Rattle.rules.specs.Elimination.{Side, leading, further, furthest}
 use Rattle.roots.specs.RootSearch.{answered}
-use Rattle.roots.specs.declared.RootAnswer.{RootAnswer}
 use Rattle.sides.specs.FurthestRoots.{further_of, furthest-append}
 use Rattle.sides.specs.Lent.{Within}
 use Rattle.sides.specs.ReportLaws.{diagonals, length-diagonals, diagonal-at, diagonal-small}
 use Rattle.working_rows.specs.Found.{Columns}
 
-unfoldable pub option_of : RootAnswer → Option ℤ
-option_of r = cond r.found (some r.root) none
+abbrev pub option_of : Prelude.Option ℤ → Option ℤ
+option_of None = none
+option_of (Some r) = some r
 
-pub option-of : {r : RootAnswer} (o : Option ℤ) → r ≡ answered o → option_of r ≡ o
-unfolding option_of root_found root_value
-option-of none e = ap option_of e
-option-of (some a) e = ap option_of e
+pub answered-option : (a : Prelude.Option ℤ) → answered (option_of a) ≡ a
+answered-option None = refl
+answered-option (Some r) = refl
 
-pub answered-option : {r : RootAnswer} (o : Option ℤ) → r ≡ answered o → r ≡ answered (option_of r)
-answered-option o e = e ∙ ap answered (sym (option-of o e))
+pub option-of : (o : Option ℤ) → option_of (answered o) ≡ o
+option-of none = refl
+option-of (some r) = refl
 
-pub option_of-found : (r : RootAnswer) → r.found ≡ true → option_of r ≡ some r.root
-unfolding option_of
-option_of-found r e = ap (λ t. cond t (some r.root) none) e
-
-pub option_of-missing : (r : RootAnswer) → r.found ≡ false → option_of r ≡ none
-unfolding option_of
-option_of-missing r e = ap (λ t. cond t (some r.root) none) e
-
-module _ (a b : RootAnswer) where
-  pub first-missing : a.found ≡ false → b ≡ answered (option_of b) → b ≡ answered (further_of leading (option_of a) (option_of b))
-  unfolding further_of
-  first-missing e h = h ∙ ap (λ o. answered (further_of leading o (option_of b))) (sym (option_of-missing a e))
-
-  pub second-missing : a.found ≡ true → b.found ≡ false → a ≡ answered (option_of a)
-      → a ≡ answered (further_of leading (option_of a) (option_of b))
+module _ (a b : ℤ) where
+  pub second-larger : le_z a b ≡ true → Some b ≡ answered (further_of leading (some a) (some b))
   unfolding further_of further
-  second-missing e f h =
-      h ∙ ap answered (option_of-found a e ∙ ap₂ (further_of leading) (sym (option_of-found a e)) (sym (option_of-missing b f)))
+  second-larger t = ap (λ u. Some (cond u b a)) (sym t)
 
-  both_found : a.found ≡ true → b.found ≡ true
-      → some (cond (le_z a.root b.root) b.root a.root) ≡ further_of leading (option_of a) (option_of b)
+  pub first-larger : le_z a b ≡ false → Some a ≡ answered (further_of leading (some a) (some b))
   unfolding further_of further
-  both_found e f = ap₂ (further_of leading) (sym (option_of-found a e)) (sym (option_of-found b f))
+  first-larger t = ap (λ u. Some (cond u b a)) (sym t)
 
-  pub second-larger : a.found ≡ true → b.found ≡ true → le_z a.root b.root ≡ true → b ≡ answered (option_of b)
-      → b ≡ answered (further_of leading (option_of a) (option_of b))
-  second-larger e f t h =
-      h ∙ ap answered (option_of-found b f ∙ ap (λ u. some (cond u b.root a.root)) (sym t) ∙ both_found e f)
+pub first-missing : (b : Prelude.Option ℤ) → b ≡ answered (further_of leading none (option_of b))
+unfolding further_of
+first-missing b = sym (answered-option b)
 
-  pub first-larger : a.found ≡ true → b.found ≡ true → le_z a.root b.root ≡ false → a ≡ answered (option_of a)
-      → a ≡ answered (further_of leading (option_of a) (option_of b))
-  first-larger e f t h =
-      h ∙ ap answered (option_of-found a e ∙ ap (λ u. some (cond u b.root a.root)) (sym t) ∙ both_found e f)
+pub second-missing : (a : ℤ) → Some a ≡ answered (further_of leading (some a) none)
+unfolding further_of further
+second-missing a = refl
 
 pub furthest-more : {A : Type 0} (side : Side) (f : A → List ℤ) (xs : List A) (x : A)
     → furthest side (flatten (map f (xs ++ x ∷ []))) ≡ further_of side (furthest side (flatten (map f xs))) (furthest side (f x))

@@ -47,7 +47,7 @@ use Rattle.sides.specs.ReportLaws.{settled_state, diagonals, length-diagonals, d
 use Rattle.solutions.specs.LargestRoots.{furthest-more, diagonals-small}
 use Rattle.reduction.specs.Progress.{outcome_at, outcome_of, state_of}
 use Rattle.reduction.specs.declared.step.Progress.{Progress}
-use Rattle.reduction.specs.declared.step.Outcome as Run
+use Rattle.reduction.specs.Answer as Run
 use Rattle.runs.specs.CallLaws.{Final}
 use Rattle.solutions.specs.SolutionAnswers.{Answer, refused_with, none_listed, last_root_of, answer_of, list_for_of, answer_at, answer_for_of}
 use Rattle.solutions.specs.SolutionAnswers.{after_trailing}

@@ -29,7 +29,7 @@ use Rattle.sides.specs.Lent.{Listing, Kept}
 use Rattle.sides.specs.StoreStates.{kept_then}
 use Rattle.reduction.specs.Progress.{outcome_at}
 use Rattle.reduction.specs.Ran.{Ran}
-use Rattle.reduction.specs.declared.step.Outcome as Run
+use Rattle.reduction.specs.Answer as Run
 use Rattle.runs.specs.CallLaws.{Checked, Final, checked, final-run}
 
 -- The rows and relations are those of the needed parts.

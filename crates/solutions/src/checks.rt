@@ -2,6 +2,7 @@
 ghost use Rattle.std.specs.Prelude.{◌≡◌, ◌&&◌, ◌+◌, ◌*◌, ◌≤◌, leb, length};
 ghost use Rattle.rules.specs.Limits.{coefficient_count, relation_length, most_equations, most_relations};
 ghost use Rattle.rules.specs.Stores as Stores;
+ghost use Rattle.refusals.specs.Refusals.{refusal_in};
 ghost use Rattle.stores.specs.Validity.{the_sizes_of};
 ghost use Rattle.constant_rows.specs.ListLengths.{list_need, matrix_need};
 ghost use Rattle.solutions.specs.SolutionAnswers as Answers;
@@ -10,6 +11,7 @@ ghost use Rattle.solutions.specs.SolutionChecks.{sides_zero_of};
 
 use constant_rows::lengths::{LIST_COLUMNS, MATRIX_ROWS};
 use polynomials::lengths::COEFFICIENTS;
+use refusals::Refusal;
 use stores::lengths::{ENTRIES, RELATION, ROW};
 
 // The sixteen numbers from `at` on are zero in each of so many parts of one width.
@@ -17,14 +19,12 @@ fn sides_zero(store: &[i64], at: usize, width: usize, count: usize) -> bool
     requires { (at + coefficient_count ≤ width) × (width ≤ relation_length) × (count * width ≤ length store.now) }
     ensures { result ≡ sides_zero_of at width count store.now }
 {
-    let mut i = 0;
-    while i < count {
+    for i in 0..count {
         let from = i * width + at;
         let to = from + COEFFICIENTS;
         if !polynomials::content::is_zero(&store[from..to]) {
             return false;
         }
-        i += 1;
     }
     true
 }
@@ -63,7 +63,17 @@ fn lent_long(
     LIST_COLUMNS * LIST_COLUMNS <= list.len()
 }
 
-// The number of the first check that fails, or 0.
+// The number of a refusal, or 0.
+fn number_in(checked: Result<(), Refusal>) -> u8
+    ensures { result ≡ refusal_in checked }
+{
+    match checked {
+        Ok(()) => 0,
+        Err(refusal) => refusal.number(),
+    }
+}
+
+// The first check that fails.
 pub(crate) fn check(
     rows: &[i64],
     relations: &[i64],
@@ -73,8 +83,8 @@ pub(crate) fn check(
     work_relations: &[i64],
     matrix: &[i64],
     list: &[i64],
-) -> u8
-    ensures { result ≡ Calls.check_call (the_sizes_of sizes) count rows.now relations.now
+) -> Result<(), Refusal>
+    ensures { refusal_in result ≡ Calls.check_call (the_sizes_of sizes) count rows.now relations.now
         (record {
           rows = work_rows.now;
           relations = work_relations.now;
@@ -82,21 +92,21 @@ pub(crate) fn check(
           list = list.now;
         }) }
 {
-    let system = stores::validity::check_stores(rows, relations, sizes, count);
+    let system = number_in(stores::validity::check_stores(rows, relations, sizes, count));
     if system == 2 {
-        return 2;
+        return Err(Refusal::OutOfRange);
     }
     if system == 1 {
-        return 1;
+        return Err(Refusal::ShortStore);
     }
     if !lent_long(work_rows, work_relations, matrix, list, sizes.equations) {
-        return 1;
+        return Err(Refusal::ShortStore);
     }
     if system == 5 {
-        return 5;
+        return Err(Refusal::PastBound);
     }
     if !homogeneous(rows, relations, sizes.equations, count) {
-        return 14;
+        return Err(Refusal::NotListed);
     }
-    0
+    Ok(())
 }

@@ -67,18 +67,18 @@ fn answer_for(
         return unlisted(reached.refusal, true);
     }
     let last = reached.index;
-    let listed = course::list_for(rows, relations, sizes, count, last, matrix, list);
-    let refusal = listed.refusal;
-    if refusal != 0 {
-        stores::rows::clear(list, 0, LIST_COLUMNS * LIST_COLUMNS);
-        return unlisted(refusal, true);
-    }
-    SolutionsResult {
-        refusal: 0,
-        begun: true,
-        found: true,
-        last,
-        count: listed.count,
+    match course::list_for(rows, relations, sizes, count, last, matrix, list) {
+        Ok(listed) => SolutionsResult {
+            refusal: 0,
+            begun: true,
+            found: true,
+            last,
+            count: listed,
+        },
+        Err(refusal) => {
+            stores::rows::clear(list, 0, LIST_COLUMNS * LIST_COLUMNS);
+            unlisted(refusal.number(), true)
+        }
     }
 }
 
@@ -122,7 +122,7 @@ pub fn solutions(
         ≡ Calls.solutions_call (the_sizes_of sizes) count rows.now relations.now
         (work_of work_rows.old work_relations.old work_matrix.old list.old) }
 {
-    let refusal = checks::check(
+    let checked = checks::check(
         rows,
         relations,
         sizes,
@@ -132,17 +132,17 @@ pub fn solutions(
         work_matrix,
         list,
     );
-    if refusal != 0 {
-        return unlisted(refusal, false);
+    match checked {
+        Ok(()) => checked_solutions(
+            rows,
+            relations,
+            sizes,
+            count,
+            work_rows,
+            work_relations,
+            work_matrix,
+            list,
+        ),
+        Err(refusal) => unlisted(refusal.number(), false),
     }
-    checked_solutions(
-        rows,
-        relations,
-        sizes,
-        count,
-        work_rows,
-        work_relations,
-        work_matrix,
-        list,
-    )
 }

@@ -11,7 +11,9 @@ ghost use Rattle.working_rows.specs.Found.{Columns};
 ghost use Rattle.sides.specs.Lent.{Within};
 ghost use Rattle.sides.specs.FurthestRoots.{further_of};
 ghost use Rattle.sides.specs.ReportLaws.{settled_state};
-ghost use Rattle.reduction.specs.Progress.{outcome_at};
+ghost use Rattle.reduction.specs.Progress.{outcome_at, final_answer};
+ghost use Rattle.reduction.specs.Answer.{run_answer};
+ghost use Rattle.std.specs.Prelude.{ℕ, Ok};
 ghost use Rattle.runs.specs.CallLaws.{Final};
 ghost use Rattle.solutions.specs.SolutionAnswers.{last_root_of};
 ghost use Rattle.solutions.specs.LargestRoots.{option_of};
@@ -19,6 +21,8 @@ ghost use Rattle.solutions.specs.LastIndices.{index_at, index_after, last_of};
 ghost use Rattle.solutions.specs.TrailingCopies.{CopyRan};
 
 use polynomials::lengths::COEFFICIENTS;
+use reduction::step::Progress;
+use refusals::Refusal;
 use sides::Side;
 use stores::lengths::{COLUMNS, RELATION, RELATIONS, ROW};
 
@@ -37,44 +41,28 @@ pub(crate) struct Last {
 }
 
 // The larger of two answers.
-fn larger(a: roots::RootAnswer, b: roots::RootAnswer) -> roots::RootAnswer
-    requires { (a ≡ answered (option_of a)) × (b ≡ answered (option_of b)) }
+fn larger(a: Option<i64>, b: Option<i64>) -> Option<i64>
     ensures { result ≡ answered (further_of Elimination.leading (option_of a) (option_of b)) }
 {
-    if !a.found {
-        b
-    } else if !b.found {
-        a
-    } else if a.root <= b.root {
-        b
-    } else {
-        a
-    }
+    let Some(first) = a else {
+        return b;
+    };
+    let Some(second) = b else {
+        return a;
+    };
+    if first <= second { b } else { a }
 }
 
 // The largest integer at which a trailing diagonal polynomial vanishes, if there is one (SCOPE 14.21).
-fn last_root(
-    store: &[i64],
-    settled: usize,
-    order: [usize; COLUMNS],
-    span: usize,
-) -> roots::RootAnswer
+fn last_root(store: &[i64], settled: usize, order: [usize; COLUMNS], span: usize) -> Option<i64>
     requires { (settled ≤ column_count) × (span ≤ 4) × Columns order × Within (Stores.row_need settled) store.now }
     ensures { result ≡ answered (last_root_of span (settled_state settled store.now order)) }
 {
-    let mut answer = roots::RootAnswer {
-        found: false,
-        root: 0,
-    };
-    let mut j = 0;
-    while j < settled {
-        let from = sides::report::diagonal_at(j, order[j], Side::Trailing, span);
+    let mut answer = None;
+    for (j, column) in order[..settled].iter().enumerate() {
+        let from = sides::report::diagonal_at(j, *column, Side::Trailing, span);
         let to = from + COEFFICIENTS;
-        let most = multiplicities::largest_with(&store[from..to]);
-        let found = most.found;
-        let root = most.root;
-        answer = larger(answer, roots::RootAnswer { found, root });
-        j += 1;
+        answer = larger(answer, roots::largest_root(&store[from..to]));
     }
     answer
 }
@@ -105,19 +93,10 @@ fn index_at(n: i64) -> Last
 }
 
 // N by the rows that the trailing run has left: its rank is to be m, and N is the largest root plus t (SCOPE 14.12, 14.21).
-fn index_after(rows: &[i64], sizes: stores::validity::Sizes, o: reduction::step::Outcome) -> Last
-    requires { T (Stores.sizes_right_of (the_sizes_of sizes)) × Final Elimination.trailing (Stores.span (the_sizes_of sizes)) rows.now o }
-    ensures { (relations : List ℤ) → last_of result ≡ index_after (the_sizes_of sizes) (outcome_at rows.now relations o) }
+fn index_after(rows: &[i64], sizes: stores::validity::Sizes, p: Progress) -> Last
+    requires { T (Stores.sizes_right_of (the_sizes_of sizes)) × Final Elimination.trailing (Stores.span (the_sizes_of sizes)) rows.now (run_answer (Ok p) p) }
+    ensures { (relations : List ℤ) → last_of result ≡ index_after (the_sizes_of sizes) (outcome_at rows.now relations (run_answer (Ok p) p)) }
 {
-    let refusal = o.refusal;
-    if refusal != 0 {
-        return Last {
-            refusal,
-            found: false,
-            index: 0,
-        };
-    }
-    let p = o.progress;
     let settled = p.settled;
     let m = sizes.m;
     if settled != m {
@@ -129,15 +108,39 @@ fn index_after(rows: &[i64], sizes: stores::validity::Sizes, o: reduction::step:
     }
     let order = p.order;
     let span = stores::validity::span(sizes);
-    let answer = last_root(rows, settled, order, span);
-    if !answer.found {
+    let Some(root) = last_root(rows, settled, order, span) else {
         return Last {
             refusal: 0,
             found: false,
             index: 0,
         };
+    };
+    index_at(root + sizes.t)
+}
+
+// The same by what the run came to.
+fn index_by(rows: &[i64], sizes: stores::validity::Sizes, o: Result<Progress, Refusal>) -> Last
+    requires { T (Stores.sizes_right_of (the_sizes_of sizes)) × Final Elimination.trailing (Stores.span (the_sizes_of sizes)) rows.now (final_answer sizes.equations o) }
+    ensures { (relations : List ℤ) → last_of result ≡ index_after (the_sizes_of sizes) (outcome_at rows.now relations (final_answer sizes.equations o)) }
+{
+    match o {
+        Ok(p) => index_after(rows, sizes, p),
+        Err(refusal) => Last {
+            refusal: refusal.number(),
+            found: false,
+            index: 0,
+        },
     }
-    index_at(answer.root + sizes.t)
+}
+
+// How many relations a run leaves: a refused one leaves none.
+fn listed_by(o: Result<Progress, Refusal>) -> usize
+    ensures { (equations : ℕ) → result ≡ (final_answer equations o).progress.count }
+{
+    match o {
+        Ok(p) => p.count,
+        Err(_) => 0,
+    }
 }
 
 // The trailing run on a copy of the system's stores. The relations that are not there are zeros (SCOPE 3.13), which are written and not
@@ -149,11 +152,11 @@ fn copy_run(
     count: usize,
     work_rows: &mut [i64],
     work_relations: &mut [i64],
-) -> reduction::step::Outcome
+) -> Result<Progress, Refusal>
     requires relations_value { Stores.check_stores_of (the_sizes_of sizes) count rows.now relations.now ≡ 0 }
     requires equations_in_bounds { (Stores.row_need sizes.equations ≤ length work_rows.old) × (Stores.relation_need ≤ length work_relations.old) }
     ensures { CopyRan (the_sizes_of sizes) count rows.now relations.now work_rows.old
-        work_relations.old work_rows.new work_relations.new result }
+        work_relations.old work_rows.new work_relations.new (final_answer sizes.equations result) }
 {
     let equations = sizes.equations;
     let need = equations * ROW;
@@ -183,9 +186,8 @@ pub(crate) fn last_index(
     ensures work_relations_after { work_relations.new ≡ overwrite (zeros Stores.relation_need) work_relations.old }
 {
     let o = copy_run(rows, relations, sizes, count, work_rows, work_relations);
-    let p = o.progress;
-    let listed = p.count * RELATION;
-    let last = index_after(work_rows, sizes, o);
+    let listed = listed_by(o) * RELATION;
+    let last = index_by(work_rows, sizes, o);
     stores::rows::clear(work_rows, 0, sizes.equations * ROW);
     stores::rows::clear(work_relations, 0, listed);
     last

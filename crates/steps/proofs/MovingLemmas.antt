@@ -4,7 +4,7 @@
 --   steps-led                 the steps after some that were taken
 --   move-goes, move-stops, move-refused   the turns of the loop
 use Rattle.std.specs.Prelude.{ℕ, zero, suc, ◌+◌, ◌-◌, ◌≤◌, ◌<◌, ◌≡◌, refl, ◌≢◌, ◌⊎◌, Bool, true, false, cond, List, leb, ℤ}
-use Rattle.std.proofs.Common.{zero-add, add-zero, suc-add, add-sub_of_le, ◌∙◌, ap, true≢false}
+use Rattle.std.proofs.Common.{Ok, zero-add, add-zero, suc-add, add-sub_of_le, ◌∙◌, ap, true≢false}
 use Rattle.std.proofs.Math.Nat.{le_refl, le_trans}
 use native.Mathlib.Omega.{arith}
 use Rattle.std.proofs.Math.Path.{sym, ap₂}
@@ -18,11 +18,11 @@ use Rattle.rules.specs.Layout.{length-rows_of, StoreRow-rows_of}
 use Rattle.theory.specs.Cells.{total_of-bound, shifts_of, width-le-length}
 use Rattle.theory.proofs.Ending.{chain-shifts}
 use Rattle.sides.specs.StoreStates.{kept_then}
-use Rattle.reduction.specs.Progress.{Ready, Reached, state_of, outcome_of, outcome_at}
+use Rattle.reduction.specs.Progress.{Ready, Reached, most_steps, state_of, outcome_of, outcome_at}
 use Rattle.reduction.specs.Dropping.{freed-then, kept_more}
 use Rattle.reduction.specs.StepCases.{finished-at}
 use Rattle.reduction.specs.declared.step.Progress.{Progress}
-use Rattle.reduction.specs.declared.step.Outcome as Answer
+use Rattle.reduction.specs.Answer as Answer
 use Rattle.steps.specs.Budgets.{standing, one_more_of, later, step_then, steps, Led, stays, leads, led-further}
 use Rattle.steps.proofs.Budgets.{steps-none}
 use Rattle.steps.specs.Budgets.{led-chain, later-none, later_more}
@@ -114,23 +114,22 @@ module _ {first : Progress} {rows relations rows' relations' : List ℤ} {p : Pr
   -- A step that is refused.
   pub move-refused : {rows'' relations'' : List ℤ} {o : Answer.Outcome} (budget : ℕ) → taken < budget → p.settled < p.rows
       → Reached p.rows rows' relations' rows'' relations'' (p.shifts + 1) o (step leading s) → o.done ≡ false → o.refusal ≢ 0
-      → Moves first budget rows relations rows'' relations'' (record { outcome = o; taken = taken })
+      → Reached first.rows rows relations rows'' relations'' most_steps o (walk_of first budget rows relations).outcome
+      × (taken ≡ (walk_of first budget rows relations).taken)
   unfolding later standing
-  move-refused {rows''} {relations''} {o} budget below left h d n =
-      record {
-        reached =
-            record {
-              outcome = is-refused ∙ sym (ap (λ w. w.outcome) walk);
-              fewer = le_trans h.fewer m.reached.fewer;
-              freed = freed-then first.rows p.rows o.progress.rows m.reached.fewer h.fewer m.reached.freed
-                  h.rows-kept h.freed;
-              rows-kept = kept_then m.reached.rows-kept (kept_more p.rows first.rows m.reached.fewer h.rows-kept);
-              relations-kept = kept_then m.reached.relations-kept h.relations-kept;
-              few-shifts = omega (arith, h.few-shifts, moving-shifts);
-              ready = h.ready;
-            };
-        taken = sym (add-zero taken) ∙ sym (ap (λ w. w.taken) walk);
-      }
+  move-refused {rows''} {relations''} {o} budget below left h d n = (
+    record {
+      outcome = is-refused ∙ sym (ap (λ w. w.outcome) walk);
+      fewer = le_trans h.fewer m.reached.fewer;
+      freed = freed-then first.rows p.rows o.progress.rows m.reached.fewer h.fewer m.reached.freed
+          h.rows-kept h.freed;
+      rows-kept = kept_then m.reached.rows-kept (kept_more p.rows first.rows m.reached.fewer h.rows-kept);
+      relations-kept = kept_then m.reached.relations-kept h.relations-kept;
+      few-shifts = omega (arith, h.few-shifts, moving-shifts);
+      ready = h.ready;
+    },
+    sym (add-zero taken) ∙ sym (ap (λ w. w.taken) walk),
+  )
     where
       is-refused : outcome_at rows'' relations'' o ≡ refused o.refusal
       is-refused = outcome-refused o.refusal o.done (state_of rows'' relations'' o.progress) n
@@ -147,21 +146,23 @@ module _ {first : Progress} {rows relations rows' relations' : List ℤ} {p : Pr
 
   -- The end: no step is left, or no row.
   pub move-stops : (budget : ℕ) → taken ≤ budget → (budget ≤ taken) ⊎ (p.rows ≤ p.settled)
-      → Moves first budget rows relations rows' relations'
-      (record { outcome = record { refusal = 0; done = leb p.rows p.settled; progress = p }; taken = taken })
+      → Moves first budget rows relations rows' relations' (record { run = Ok p; taken = taken })
   unfolding later standing
   move-stops budget within over =
       record {
-        reached =
-            record {
-              outcome = sym (ap (λ w. w.outcome) walk);
-              fewer = m.reached.fewer;
-              freed = m.reached.freed;
-              rows-kept = m.reached.rows-kept;
-              relations-kept = m.reached.relations-kept;
-              few-shifts = omega (arith, moving-shifts);
-              ready = m.reached.ready;
-            };
+        came = record {
+          left = p;
+          reached =
+              record {
+                outcome = sym (ap (λ w. w.outcome) walk);
+                fewer = m.reached.fewer;
+                freed = m.reached.freed;
+                rows-kept = m.reached.rows-kept;
+                relations-kept = m.reached.relations-kept;
+                few-shifts = omega (arith, moving-shifts);
+                ready = m.reached.ready;
+              };
+        };
         taken = sym (add-zero taken) ∙ sym (ap (λ w. w.taken) walk);
       }
     where

@@ -7,8 +7,8 @@
 --   stands                     what is left of a run
 --   call-moved                 the whole call of a state that passes the checks
 use Prim.Native.Nat.{ℕ, zero, suc, ◌≤◌}
-use Rattle.std.proofs.Common.{le_trans, le_of_eq, le_antisymm, mul-le-mul_left, sym, ◌∙◌, ap₂, leb-true}
-use Rattle.std.specs.Prelude.{◌≡◌, refl, ◌≢◌, true, false, not, List, T, ℤ, length}
+use Rattle.std.proofs.Common.{Ok, le_trans, le_of_eq, le_antisymm, mul-le-mul_left, sym, ◌∙◌, leb-true}
+use Rattle.std.specs.Prelude.{◌≡◌, refl, ◌≢◌, leb, true, false, not, List, T, ℤ, length}
 use Rattle.std.proofs.Math.Path.{ap, subst}
 use Rattle.lists.specs.Everywhere.{member-all}
 use Rattle.lists.specs.Padded.{pad_to, length-pad_to, take-pad_to}
@@ -27,10 +27,10 @@ use Rattle.theory.specs.Report.{nonzero-diagonal}
 use Rattle.sides.specs.FurthestRoots.{Nonzero}
 use Rattle.sides.specs.ReportLaws.{diagonal-settled}
 use Rattle.reduction.specs.Progress.{Ready, state_of, outcome_of, outcome_at}
-use Rattle.reduction.specs.StepCases.{finished-at}
 use Rattle.reduction.specs.Ran.{progress_of, answer_for_of, rows_after_of, relations_after_of}
 use Rattle.reduction.specs.declared.step.Progress.{Progress}
-use Rattle.reduction.specs.declared.step.Outcome as Answer
+use Rattle.reduction.specs.Answer as Answer
+use Rattle.reduction.specs.Progress.{final_answer}
 use Rattle.runs.specs.CallLaws.{few-blocks, Checked, checked}
 use Rattle.steps.specs.Budgets.{Walk, steps, Walked, used-up, at-end, stopped, led-chain, row-of, refusal-number}
 use Rattle.steps.proofs.Budgets.{walked}
@@ -174,49 +174,43 @@ unfolding diagonal_place entry leading_block
 triangular-nonzero D s t =
     member-all (λ p. T (not (is_zero_of p))) (diagonal leading D s) (nonzero-diagonal leading D s (λ j h k. (t.pivots j k).diagonal))
 
--- What a run has left.
-pub stands : (D : ℕ) {first : Progress} {budget : ℕ} {rows relations rows' relations' : List ℤ} {r : Moved}
-    → Triangular (state_of rows relations first) → MovedTo first budget rows relations rows' relations' r → Stands D rows' r.outcome
+-- What a run has left that is not refused.
+pub stands : (D : ℕ) {first p : Progress} {budget taken : ℕ} {rows relations rows' relations' : List ℤ}
+    → Triangular (state_of rows relations first) → MovedTo first budget rows relations rows' relations' (record { run = Ok p; taken = taken })
+    → Stands D rows' p
 unfolding outcome_of state_of
-stands D {first} {budget} {rows} {relations} {rows'} {relations'} {r} t m =
+stands D {first} {p} {budget} {taken} {rows} {relations} {rows'} {relations'} t m =
     record {
       rows-within = ready.rows-within;
       few-settled = ready.few-settled;
       four = ready.four;
       columns = ready.columns;
       all_settled = all_settled;
-      nonzero = λ e d.
+      nonzero = λ d.
           subst Nonzero
-          (diagonal-settled leading D o.progress.settled rows' o.progress.order v (ap (λ n. rows_of n rows') (all_settled e d)) refl)
-          (triangular-nonzero D v (done-triangular budget (state_of rows relations first) v t (came e d)));
+          (diagonal-settled leading D p.settled rows' p.order v (ap (λ n. rows_of n rows') (all_settled d)) refl)
+          (triangular-nonzero D v (done-triangular budget (state_of rows relations first) v t (came d)));
     }
   where
-    o : Answer.Outcome
-    o = r.outcome
-
     v : State
-    v = state_of rows' relations' o.progress
+    v = state_of rows' relations' p
 
-    ready : Ready rows' relations' o.progress
+    ready : Ready rows' relations' p
     ready = m.ran.reached.ready
 
-    came : o.refusal ≡ 0 → o.done ≡ true → (walk_of first budget rows relations).outcome ≡ done v
-    came e d = sym m.ran.reached.outcome ∙ ap₂ (λ n b. outcome_of n b v) e d
+    came : leb p.rows p.settled ≡ true → (walk_of first budget rows relations).outcome ≡ done v
+    came d = sym m.ran.reached.outcome ∙ ap (λ b. outcome_of 0 b v) d
 
-    all_settled : o.refusal ≡ 0 → o.done ≡ true → o.progress.rows ≡ o.progress.settled
-    all_settled e d =
-        le_antisymm
-        (leb-true o.progress.rows o.progress.settled
-        (sym (finished-at leading ready) ∙ done-finished budget (state_of rows relations first) v (came e d)))
-        ready.settled
+    all_settled : leb p.rows p.settled ≡ true → p.rows ≡ p.settled
+    all_settled d = le_antisymm (leb-true p.rows p.settled d) ready.settled
 
 pub call-moved : (budget : ℕ) (x : Held) (row_store relation_store : List ℤ) → length x.order ≡ column_count
     → check_state_of x row_store relation_store ≡ 0 → {first : Progress} {rows' relations' : List ℤ} {r : Moved}
     → MovedTo first budget row_store relation_store rows' relations' r → first ≡ progress_in x → (state : Held) (run : Result)
-    → state ≡ state_after_of x.sizes r.outcome.refusal r.outcome.progress
-    → run ≡ run_after (span x.sizes) (outcome_at rows' relations' r.outcome)
+    → let o = final_answer first.rows r.run in state ≡ state_after_of x.sizes o.refusal o.progress
+    → run ≡ run_after (span x.sizes) (outcome_at rows' relations' o)
     → record {
-      result = record { steps = r.taken; finished = r.outcome.done; state = state; run = run };
+      result = record { steps = r.taken; finished = o.done; state = state; run = run };
       row_store = rows';
       relation_store = relations';
     } ≡ steps_call budget x row_store relation_store
@@ -225,19 +219,24 @@ call-moved budget x row_store relation_store four passed {first} {rows'} {relati
     (λ i. record {
       result = record {
         steps = m.taken i;
-        finished = r.outcome.done;
+        finished = o.done;
         state = e i;
-        run = (f ∙ ap (run_after (span x.sizes)) m.ran.reached.outcome) i;
+        run = (f ∙ ap (run_after (span x.sizes)) left.ran.reached.outcome ∙ ap (λ p. run_after (span x.sizes) (walk_of p budget row_store relation_store).outcome) same) i;
       };
-      row_store = m.ran.rows-after i;
+      row_store = (left.ran.rows-after ∙ ap (λ p. rows_after_of p.rows (walk_of p budget row_store relation_store).outcome row_store) same) i;
       relation_store = m.ran.relations-after i;
     })
-    ∙ call-parts x.sizes walk.taken row_store relation_store walk.outcome r.outcome
-    (walk_refused budget (state_of row_store relation_store (progress_in x))) m.ran.answer m.ran.reached.ready.few-settled
+    ∙ call-parts x.sizes walk.taken row_store relation_store walk.outcome o
+    (walk_refused budget (state_of row_store relation_store (progress_in x)))
+    (subst (λ p. o ≡ answer_for_of p.rows (walk_of p budget row_store relation_store).outcome) same left.ran.answer)
+    left.ran.reached.ready.few-settled
     ∙ ap (λ s. after_steps x.sizes (steps leading budget s).taken (steps leading budget s).outcome row_store relation_store)
     (state-in x row_store relation_store four passed)
     ∙ ap (after_state_check budget x row_store relation_store) (sym passed)
   where
+    o : Answer.Outcome
+    o = final_answer first.rows r.run
+
     m : MovedTo (progress_in x) budget row_store relation_store rows' relations' r
     m = subst (λ p. MovedTo p budget row_store relation_store rows' relations' r) same left
 

@@ -3,10 +3,10 @@
 -- Main definitions
 --   held_of, prepared_of    the state and the result of preparing, as the definitions have them
 use Prim.Native.Nat.{ℕ, zero, suc, ◌+◌, ◌-◌, ◌≤◌, ◌<◌, pred}
-use Rattle.std.proofs.Common.{not-suc-le-zero, le_of_lt, le_refl, mul-le-mul_right, add-one, arith, ◌∙◌, ap₂, subst, leb→le, eqb→eq, take-append-drop, take-suc, take-take}
+use Rattle.std.proofs.Common.{Ok, Err, not-suc-le-zero, le_of_lt, le_refl, mul-le-mul_right, add-one, arith, ◌∙◌, ap₂, subst, leb→le, eqb→eq, take-append-drop, take-suc, take-take}
 use Rattle.std.proofs.Math.Nat.{le_trans}
 use Rattle.std.proofs.Math.Decide.{ℕ_discrete}
-use Rattle.std.specs.Prelude.{◌≡◌, refl, ◌≢◌, Bool, true, false, ◌&&◌, not, List, [], ◌∷◌, ◌++◌, map, T, leb, eqb, ℤ, length, take, drop, get_or, set}
+use Rattle.std.specs.Prelude.{Result, ◌≡◌, refl, ◌≢◌, ◌↔◌, IsTrue, EachIndex, Bool, true, false, ◌&&◌, not, List, [], ◌∷◌, ◌++◌, map, T, leb, eqb, ℤ, length, take, drop, get_or, set}
 use Rattle.std.proofs.Math.Path.{sym, ap}
 use Rattle.std.proofs.Math.Bool.{cond, and-false}
 use Rattle.std.proofs.lemmas.List.{map-append}
@@ -16,9 +16,9 @@ use Rattle.std.proofs.Math.Dec.{lit<, eqb-zero-suc, eqb-suc-suc}
 use Rattle.std.proofs.Math.ListN.{length-map}
 use Rattle.std.proofs.Math.Seq.{length-take-le}
 use Rattle.algebra.specs.Polynomials.{Polynomial, is_zero_of}
-use Rattle.lists.specs.Everywhere.{All, all-mono, map-keeps}
+use Rattle.lists.specs.Everywhere.{All, all-mono, map-keeps, all_get_or, get_or-all}
 use Rattle.lists.specs.Padded.{pad_to, pad_to-more, all-pad_to, take-pad_to, get_or-pad_to}
-use Rattle.lists.specs.Tests.{T-&&, every, every-from-at, all-of-every, false_of, true-T, cond-passed}
+use Rattle.lists.specs.Tests.{T-&&, T-is, same_test, every, all-of-every, every-of-all, true-T, cond-passed}
 use Rattle.rules.specs.Limits.{column_count, entries_length, row_length}
 use Rattle.rules.specs.Rows.{Row, no_row, entry, first_nonzero}
 use Rattle.rules.specs.Stores.{Sizes, equations, row_of, rows_of, row_need, sizes_right_of, count_right, lengths_right_of, numbers_right_of, check_stores_of}
@@ -31,15 +31,17 @@ use Rattle.steps.specs.HeldCalls.{Held, no_state_of, prepared, after_checks, pre
 use Rattle.steps.specs.HeldCalls.{check_state_of}
 use Rattle.steps.specs.SoundStates.{HeldBounds, sizes_held-iff}
 use Rattle.steps.specs.declared.State.{State}
-use Rattle.steps.specs.declared.Prepared as Answer
+use Rattle.refusals.specs.declared.Refusal.{Refusal}
+use Rattle.refusals.specs.Refusals.{number_of}
 
 unfoldable pub held_of : State → Held
 unfolding the_sizes_of
 held_of x = record { sizes = the_sizes_of x.sizes; relations = x.relations; settled = x.settled; order = x.order; shifts = x.shifts }
 
-unfoldable pub prepared_of : Answer.Prepared → Calls.Prepared
+unfoldable pub prepared_of : Result State Refusal → Calls.Prepared
 unfolding held_of
-prepared_of r = record { refusal = r.refusal; state = held_of r.state }
+prepared_of (Ok state) = record { refusal = 0; state = held_of state }
+prepared_of (Err r) = record { refusal = number_of r; state = no_state_of }
 
 -- ---- preparing
 
@@ -73,20 +75,21 @@ module _ (a b c d : Bool) where
 
 -- ---- the tests of the columns
 
--- A column past the settled ones that is not 0.
-pub unused-false : (order : List ℕ) (settled j : ℕ) → settled ≤ j → j < length order → get_or order j 0 ≢ 0
-    → false ≡ every (eqb 0) (drop settled order)
-unused-false order settled j low high n =
-    sym (false_of _ (λ t. n (sym (eqb→eq 0 (get_or order j 0) (every-from-at (eqb 0) order 0 settled t j low high)))))
+-- A test of every member says what `every` says.
+pub every-tested : {A : Type 0} (t : A → Bool) (d : A) (b : Bool) (l : List A) → IsTrue b ↔ EachIndex l (λ k. t (get_or l k d) ≡ true)
+    → b ≡ every t l
+every-tested t d b l h =
+    same_test b (every t l)
+    (λ e. every-of-all t l (get_or-all (λ x. T (t x)) l d (λ k below. true-T _ (h.0 ((T-is b).0 e) k below))))
+    (λ e. true-T b (h.1 (λ k below. (T-is _).0 (all_get_or (λ x. T (t x)) l d k below (all-of-every t l e)))))
 
--- One column more that is 0.
-pub unused-next : (order : List ℕ) (settled j : ℕ) → ((i : ℕ) → settled ≤ i → i < j → T (eqb 0 (get_or order i 0)))
-    → get_or order j 0 ≡ 0 → (i : ℕ) → settled ≤ i → i < j + 1 → T (eqb 0 (get_or order i 0))
-unused-next order settled j before e i low high = cases (ℕ_discrete i j)
-  where
-    cases : Dec (i ≡ j) → T (eqb 0 (get_or order i 0))
-    cases (yes same) = subst (λ c. T (eqb 0 c)) (sym (ap (λ k. get_or order k 0) same ∙ e)) tt
-    cases (no n) = before i low (omega arith)
+-- So does a test of every number for 0.
+pub zeros-tested : (b : Bool) (l : List ℕ) → IsTrue b ↔ EachIndex l (λ k. get_or l k 0 ≡ 0) → b ≡ every (eqb 0) l
+zeros-tested b l h =
+    every-tested (eqb 0) 0 b l (
+      λ e k below. subst (λ n. eqb 0 n ≡ true) (sym (h.0 e k below)) refl,
+      λ each. h.1 (λ k below. sym (eqb→eq 0 (get_or l k 0) (true-T _ (each k below)))),
+    )
 
 -- ---- the diagonal and the columns
 

@@ -8,14 +8,20 @@
 -- Main statements
 --   move-starts               the loop's start
 --   moved-held, moved-cleared what a run gives that is not refused, and one that is
-use Rattle.std.specs.Prelude.{ℕ, ◌*◌, ◌≡◌, refl, ◌≢◌, List, ℤ, pos, replicate}
+--   moved-as                  the same where it is known which of both it is
+use Rattle.std.specs.Prelude.{ℕ, ◌≡◌, refl, List, ℤ, Result}
+use Rattle.std.proofs.Common.{Ok, Err}
 use Rattle.std.proofs.Math.Nat.{le_refl}
-use Rattle.std.proofs.Math.Seq.{paste}
-use Rattle.rules.specs.Limits.{relation_length}
+use Rattle.std.proofs.Math.Path.{sym, subst}
+use Rattle.refusals.specs.declared.Refusal.{Refusal}
+use Rattle.refusals.specs.Refusals.{number-nonzero}
 use Rattle.rules.specs.Stores.{row_need, relation_need}
+use Rattle.rules.specs.Calls.{zeros}
+use Rattle.lists.specs.Overwritten.{overwrite}
 use Rattle.rules.specs.Elimination.{leading, going}
 use Rattle.sides.specs.StoreStates.{kept_same}
-use Rattle.reduction.specs.Progress.{Ready, Reached, state_of, outcome_of, answer_of, most_steps, start_progress}
+use Rattle.reduction.specs.Answer.{run_answer}
+use Rattle.reduction.specs.Progress.{Ready, Reached, Came, state_of, outcome_of, answer_of, most_steps, final_answer}
 use Rattle.reduction.specs.Dropping.{freed-none}
 use Rattle.reduction.specs.Ran.{Ran, ran-held, ran-cleared}
 use Rattle.reduction.specs.declared.step.Progress.{Progress}
@@ -33,11 +39,11 @@ pub record Moving (first : Progress) (rows relations rows' relations' : List ℤ
   pub led : Led leading (state_of rows relations first) taken (state_of rows' relations' p)
 
 pub record Moves (first : Progress) (budget : ℕ) (rows relations rows' relations' : List ℤ) (r : Moved) : Type 0 where
-  pub reached : Reached first.rows rows relations rows' relations' most_steps r.outcome (walk_of first budget rows relations).outcome
+  pub came : Came run_answer first.rows rows relations rows' relations' most_steps r.run (walk_of first budget rows relations).outcome
   pub taken : r.taken ≡ (walk_of first budget rows relations).taken
 
 pub record MovedTo (first : Progress) (budget : ℕ) (rows relations rows' relations' : List ℤ) (r : Moved) : Type 0 where
-  pub ran : Ran first.rows rows relations rows' relations' r.outcome (walk_of first budget rows relations).outcome
+  pub ran : Ran first.rows rows relations rows' relations' (final_answer first.rows r.run) (walk_of first budget rows relations).outcome
   pub taken : r.taken ≡ (walk_of first budget rows relations).taken
 
 pub move-starts : (first : Progress) (rows relations : List ℤ) → Ready rows relations first
@@ -60,16 +66,33 @@ move-starts first rows relations ready =
 
 -- ---- what is left
 
-pub moved-held : {first : Progress} {budget : ℕ} {rows relations rows' relations' : List ℤ} {r : Moved} → Ready rows relations first
-    → Moves first budget rows relations rows' relations' r → r.outcome.refusal ≡ 0
-    → MovedTo first budget rows relations rows' relations' r
-moved-held ready m e = record { ran = ran-held ready.rows-within.long m.reached e; taken = m.taken }
+module _ {first : Progress} {budget : ℕ} {rows relations : List ℤ} {r : Moved} (ready : Ready rows relations first) where
+  pub moved-held : {rows' relations' : List ℤ} {p : Progress} → r.run ≡ Ok p → Moves first budget rows relations rows' relations' r
+      → MovedTo first budget rows relations rows' relations' r
+  moved-held {rows'} {relations'} e m =
+      record {
+        ran = subst (λ run. Ran first.rows rows relations rows' relations' (final_answer first.rows run) (walk_of first budget rows relations).outcome) (sym e)
+            (ran-held ready.rows-within.long
+            (subst (λ run. Reached first.rows rows relations rows' relations' most_steps (run_answer run m.came.left) (walk_of first budget rows relations).outcome) e m.came.reached)
+            refl);
+        taken = m.taken;
+      }
 
-pub moved-cleared : {first : Progress} {budget : ℕ} {rows relations rows₁ relations₁ rows₂ relations₂ : List ℤ} {r : Moved}
-    → Ready rows relations first → Moves first budget rows relations rows₁ relations₁ r → r.outcome.refusal ≢ 0
-    → rows₂ ≡ paste rows₁ 0 (replicate (row_need first.rows) (pos 0)) (row_need first.rows)
-    → let used = r.outcome.progress.count * relation_length in relations₂ ≡ paste relations₁ 0 (replicate used (pos 0)) used
-    → MovedTo first budget rows relations rows₂ relations₂
-    (record { outcome = answer_of r.outcome.refusal (start_progress first.rows 0); taken = r.taken })
-moved-cleared ready m n e f =
-    record { ran = ran-cleared ready.few-rows ready.rows-within.long m.reached n e f refl; taken = m.taken }
+  pub moved-cleared : {rows₁ relations₁ rows₂ relations₂ : List ℤ} {n : Refusal} → r.run ≡ Err n
+      → Moves first budget rows relations rows₁ relations₁ r → rows₂ ≡ overwrite (zeros (row_need first.rows)) rows₁
+      → relations₂ ≡ overwrite (zeros relation_need) relations₁ → MovedTo first budget rows relations rows₂ relations₂ r
+  moved-cleared {rows₁} {relations₁} {rows₂} {relations₂} {n} e m f g =
+      record {
+        ran = subst (λ run. Ran first.rows rows relations rows₂ relations₂ (final_answer first.rows run) (walk_of first budget rows relations).outcome) (sym e)
+            (ran-cleared ready.few-rows ready.rows-within.long
+            (subst (λ run. Reached first.rows rows relations rows₁ relations₁ most_steps (run_answer run m.came.left) (walk_of first budget rows relations).outcome) e m.came.reached)
+            (number-nonzero n) f g);
+        taken = m.taken;
+      }
+
+-- What is known of the result, for each of its parts.
+pub moved-as : {first : Progress} {budget : ℕ} {rows relations rows' relations' : List ℤ} {r : Moved} {x : Result Progress Refusal}
+    → r.run ≡ x → MovedTo first budget rows relations rows' relations' r
+    → MovedTo first budget rows relations rows' relations' (record { run = x; taken = r.taken })
+moved-as {first} {budget} {rows} {relations} {rows'} {relations'} {r} e m =
+    subst (λ run. MovedTo first budget rows relations rows' relations' (record { run = run; taken = r.taken })) e m

@@ -3,8 +3,9 @@
 -- Main definitions
 --   result_of r, call_of r rows relations   the result, and the whole call, as the definitions have them
 --   held_by z p, state_after_of z n p   the state that is given back with a progress, and after a refusal n
+--   run_in r, finished_in r     the result of the run in that of the code, and whether it is finished
 --   run_after D x               the result of a run that came to x
---   Stands D rows o            what the row store and the answer hold when a run stops
+--   Stands D rows p            what the row store and the progress hold when a run stops
 --   progress_in x               the progress that a state which is handed in says
 --
 -- Main statements
@@ -24,7 +25,10 @@ use Rattle.sides.specs.FurthestRoots.{Nonzero}
 use Rattle.sides.specs.ReportLaws.{settled_state}
 use Rattle.reduction.specs.Progress.{outcome_of}
 use Rattle.reduction.specs.declared.step.Progress.{Progress}
-use Rattle.reduction.specs.declared.step.Outcome as Answer
+use Rattle.refusals.specs.declared.Refusal.{Refusal}
+use Rattle.runs.specs.declared.RunReport.{RunReport}
+use Rattle.std.specs.Prelude as Std
+use Rattle.std.proofs.Common.{leb, Ok, Err, Some, None}
 use Rattle.runs.specs.CallLaws as RunLaws
 use Rattle.steps.specs.HeldCalls as Calls
 use Rattle.steps.specs.HeldCalls.{Held, no_state_of, the_columns_of, StepsCall, unmoved}
@@ -33,9 +37,20 @@ use Rattle.steps.specs.SoundStates.{HeldBounds, sizes_held-iff, check_state-zero
 use Rattle.steps.specs.Handed.{held_of}
 use Rattle.steps.specs.declared.StepsResult.{StepsResult}
 
+-- The result of the run: zeros where it is not finished.
+unfoldable pub run_in : Std.Result (Std.Option RunReport) Refusal → Result
+run_in (Ok None) = refusal 0
+run_in (Ok (Some report)) = RunLaws.result_of (Ok report)
+run_in (Err r) = RunLaws.result_of (Err r)
+
+abbrev pub finished_in : Std.Result (Std.Option RunReport) Refusal → Bool
+finished_in (Ok None) = false
+finished_in (Ok (Some report)) = true
+finished_in (Err r) = false
+
 unfoldable pub result_of : StepsResult → Calls.StepsResult
-unfolding held_of
-result_of r = record { steps = r.steps; finished = r.finished; state = held_of r.state; run = RunLaws.result_of r.run }
+unfolding held_of run_in
+result_of r = record { steps = r.steps; finished = finished_in r.run; state = held_of r.state; run = run_in r.run }
 
 unfoldable pub call_of : StepsResult → List ℤ → List ℤ → StepsCall
 unfolding result_of
@@ -107,15 +122,14 @@ passed-bounds x row_store relation_store passed = (sizes_held-iff x).0 ((check_s
 
 -- ---- the whole call
 
--- What the row store and the answer hold when a run stops. No diagonal polynomial of a finished run is zero.
-pub record Stands (D : ℕ) (rows : List ℤ) (o : Answer.Outcome) : Type 0 where
-  pub rows-within : Within (row_need o.progress.rows) rows
-  pub few-settled : o.progress.settled ≤ column_count
-  pub four : length o.progress.order ≡ column_count
-  pub columns : Columns o.progress.order
-  pub all_settled : o.refusal ≡ 0 → o.done ≡ true → o.progress.rows ≡ o.progress.settled
-  pub nonzero : o.refusal ≡ 0 → o.done ≡ true
-      → Nonzero (diagonal leading D (settled_state o.progress.settled rows o.progress.order))
+-- What the row store and the progress hold when a run stops that is not refused. No diagonal polynomial of a finished run is zero.
+pub record Stands (D : ℕ) (rows : List ℤ) (p : Progress) : Type 0 where
+  pub rows-within : Within (row_need p.rows) rows
+  pub few-settled : p.settled ≤ column_count
+  pub four : length p.order ≡ column_count
+  pub columns : Columns p.order
+  pub all_settled : leb p.rows p.settled ≡ true → p.rows ≡ p.settled
+  pub nonzero : leb p.rows p.settled ≡ true → Nonzero (diagonal leading D (settled_state p.settled rows p.order))
 
 pub call-unmoved : (budget : ℕ) (x : Held) (row_store relation_store : List ℤ) (n : ℕ) (run : Result) → n ≢ 0
     → n ≡ check_state_of x row_store relation_store → run ≡ refusal n

@@ -1,5 +1,5 @@
 // The checks of a state that is handed in: sizes (11), lengths (1), numbers (11), the diagonal and the columns last (11) (SCOPE 11.21).
-ghost use Rattle.std.specs.Prelude.{◌≡◌, ◌&&◌, map, pred, ◌≤◌, leb, eqb, length, take, drop};
+ghost use Rattle.std.specs.Prelude.{if◌then◌else◌, ◌≡◌, ◌&&◌, map, pred, ◌≤◌, leb, eqb, length, take, drop};
 ghost use Rattle.rules.specs.Limits.{column_count};
 ghost use Rattle.rules.specs.Stores.{row_need, rows_of, sizes_right_of};
 ghost use Rattle.stores.specs.Validity.{the_sizes_of};
@@ -9,8 +9,10 @@ ghost use Rattle.lists.specs.Tests.{every};
 ghost use Rattle.working_rows.specs.Found.{Columns};
 ghost use Rattle.steps.specs.HeldCalls as Calls;
 ghost use Rattle.steps.specs.Handed.{held_of};
+ghost use Rattle.refusals.specs.Refusals.{number_of, refusal_in};
 
 use crate::State;
+use refusals::Refusal;
 use stores::lengths::{COLUMNS, ENTRIES, ROW};
 
 // The columns of the settled rows are from 1 to m (SCOPE 11.22).
@@ -18,14 +20,9 @@ fn columns_within(order: [usize; COLUMNS], settled: usize, m: usize) -> bool
     requires { settled ≤ column_count }
     ensures { result ≡ every (λ c. leb 1 c && leb c m) (take settled order) }
 {
-    let mut j = 0;
-    while j < settled {
-        if !stores::validity::counted(order[j], m) {
-            return false;
-        }
-        j += 1;
-    }
-    true
+    order[..settled]
+        .iter()
+        .all(|c| stores::validity::counted(*c, m))
 }
 
 // Past them the order holds 0 (SCOPE 11.22).
@@ -33,14 +30,7 @@ fn columns_unused(order: [usize; COLUMNS], settled: usize) -> bool
     requires { settled ≤ column_count }
     ensures { result ≡ every (eqb 0) (drop settled order) }
 {
-    let mut j = settled;
-    while j < COLUMNS {
-        if order[j] != 0 {
-            return false;
-        }
-        j += 1;
-    }
-    true
+    order[settled..].iter().all(|c| *c == 0)
 }
 
 fn order_held(order: [usize; COLUMNS], settled: usize, m: usize) -> bool
@@ -89,10 +79,8 @@ pub fn from_zero(order: [usize; COLUMNS], settled: usize) -> [usize; COLUMNS]
     ensures { (result ≡ pad_to column_count 0 (map pred (take settled order))) × (length order ≡ column_count) }
 {
     let mut columns = [0usize; COLUMNS];
-    let mut j = 0;
-    while j < settled {
-        columns[j] = order[j] - 1;
-        j += 1;
+    for (j, c) in order[..settled].iter().enumerate() {
+        columns[j] = *c - 1;
     }
     columns
 }
@@ -102,37 +90,41 @@ pub fn pivots_right(rows: &[i64], order: [usize; COLUMNS], settled: usize) -> bo
     requires { (settled ≤ column_count) × (row_need settled ≤ length rows.now) × Columns order }
     ensures { result ≡ Calls.pivots_right_of order (rows_of settled rows.now) settled }
 {
-    let mut j = 0;
-    while j < settled {
+    for j in 0..settled {
         let row = stores::rows::row_at(rows, j * ROW);
         if working_rows::entries::first_met(&row[0..ENTRIES], order, j + 1) != j {
             return false;
         }
-        j += 1;
     }
     true
 }
 
-// The number of the first check that fails, or 0 (SCOPE 11.21).
-pub(crate) fn check_state(rows: &[i64], relations: &[i64], state: State) -> u8
-    ensures { result ≡ Calls.check_state_of (held_of state) rows.now relations.now }
+// Of the checks of the stores, too short a store alone is told as such (SCOPE 11.21).
+fn of_state(refusal: Refusal) -> Refusal
+    ensures { number_of result ≡ (if eqb (number_of refusal) 1 then 1 else 11) }
+{
+    match refusal {
+        Refusal::ShortStore => Refusal::ShortStore,
+        _ => Refusal::WrongState,
+    }
+}
+
+// The first check that fails (SCOPE 11.21).
+pub(crate) fn check_state(rows: &[i64], relations: &[i64], state: State) -> Result<(), Refusal>
+    ensures { refusal_in result ≡ Calls.check_state_of (held_of state) rows.now relations.now }
 {
     if !sizes_held(state) {
-        return 11;
+        return Err(Refusal::WrongState);
     }
     let sizes = state.sizes;
-    let checked = stores::validity::check_stores(rows, relations, sizes, state.relations);
-    if checked == 1 {
-        return 1;
-    }
-    if checked != 0 {
-        return 11;
+    match stores::validity::check_stores(rows, relations, sizes, state.relations) {
+        Ok(()) => {}
+        Err(refusal) => return Err(of_state(refusal)),
     }
     let settled = state.settled;
-    let counted = state.order;
-    let order = from_zero(counted, settled);
+    let order = from_zero(state.order, settled);
     if !pivots_right(rows, order, settled) {
-        return 11;
+        return Err(Refusal::WrongState);
     }
-    0
+    Ok(())
 }

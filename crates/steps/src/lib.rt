@@ -2,18 +2,19 @@
 // are the public entry points: no `requires`, and contracts that give the result and every lent store by equations.
 #![tactic(auto)]
 
-ghost use Rattle.std.specs.Prelude.{◌≡◌, List, ◌≤◌, T, ℤ};
+ghost use Rattle.std.specs.Prelude.{◌≡◌, List, ◌≤◌, leb, T, ℤ};
 ghost use Rattle.rules.specs.Limits.{column_count};
 ghost use Rattle.rules.specs.Stores.{sizes_right_of, span};
 ghost use Rattle.stores.specs.Validity.{the_sizes_of};
 ghost use Rattle.working_rows.specs.Found.{Columns};
-ghost use Rattle.reduction.specs.Progress.{outcome_at};
-ghost use Rattle.runs.specs.CallLaws as RunLaws;
+ghost use Rattle.reduction.specs.Progress.{outcome_in};
 ghost use Rattle.steps.specs.HeldCalls as Calls;
 ghost use Rattle.steps.specs.Handed.{held_of, prepared_of};
-ghost use Rattle.steps.specs.StepCalls.{state_after_of, run_after, Stands, call_of};
+ghost use Rattle.steps.specs.StepCalls.{held_by, finished_in, run_in, run_after, Stands, call_of};
 
-use reduction::step::{Outcome, Progress};
+use reduction::step::Progress;
+use refusals::Refusal;
+use runs::RunReport;
 use sides::Side;
 use stores::lengths::COLUMNS;
 
@@ -22,7 +23,6 @@ mod moving;
 
 // A run between two calls: the sizes of the rows that are left, the number of relations, of settled rows, their columns, counted
 // from 1, with zeros past the last, and the shifts (SCOPE 11.11).
-#[derive(Drop)]
 #[derive(Clone, Copy)]
 pub struct State {
     pub sizes: stores::validity::Sizes,
@@ -32,20 +32,13 @@ pub struct State {
     pub shifts: usize,
 }
 
-#[derive(Drop)]
-pub struct Prepared {
-    pub refusal: u8,
-    pub state: State,
-}
-
-// The steps that were taken, whether no row is left, the state, and the result of the run: that of a whole run if it is finished,
-// otherwise its refusal, if there is one, and zeros (SCOPE 8.1, 11.31).
-#[derive(Drop)]
+// The steps that were taken, a refused one not counted; the state; and the refusal or, where no row is left, the report of the whole run
+// (SCOPE 8.1, 11.31, 11.45).
+#[derive(Clone, Copy)]
 pub struct StepsResult {
     pub steps: usize,
-    pub finished: bool,
     pub state: State,
-    pub run: runs::RunResult,
+    pub run: Result<Option<RunReport>, Refusal>,
 }
 
 // All numbers are 0 (SCOPE 11.34).
@@ -72,65 +65,47 @@ pub fn prepare(
     relations: &[i64],
     sizes: stores::validity::Sizes,
     count: usize,
-) -> Prepared
+) -> Result<State, Refusal>
     ensures { prepared_of result ≡ Calls.prepare_call (the_sizes_of sizes) count rows.now relations.now }
 {
-    let refusal = stores::validity::check_stores(rows, relations, sizes, count);
-    if refusal != 0 {
-        return Prepared {
-            refusal,
-            state: no_state(),
-        };
-    }
-    let state = State {
+    stores::validity::check_stores(rows, relations, sizes, count)?;
+    Ok(State {
         sizes,
         relations: count,
         settled: 0,
         order: [0; COLUMNS],
         shifts: 0,
-    };
-    Prepared { refusal: 0, state }
+    })
 }
 
-// The state that a run has come to; zeros where it is refused (SCOPE 11.14, 11.34).
-fn state_after(sizes: stores::validity::Sizes, o: Outcome) -> State
-    requires { (o.progress.settled ≤ column_count) × Columns o.progress.order }
-    ensures { held_of result ≡ state_after_of (the_sizes_of sizes) o.refusal o.progress }
+// The state that a run has come to (SCOPE 11.14).
+fn state_at(sizes: stores::validity::Sizes, p: Progress) -> State
+    requires { (p.settled ≤ column_count) × Columns p.order }
+    ensures { held_of result ≡ held_by (the_sizes_of sizes) p }
 {
-    let refusal = o.refusal;
-    if refusal != 0 {
-        return no_state();
-    }
-    let p = o.progress;
     let settled = p.settled;
-    let columns = p.order;
     let mut left = sizes;
     left.equations = p.rows;
-    let order = runs::counted(columns, settled);
     State {
         sizes: left,
         relations: p.count,
         settled,
-        order,
+        order: runs::counted(p.order, settled),
         shifts: p.shifts,
     }
 }
 
-// The result of a run that has stopped: that of a whole run if no row is left, otherwise its refusal or zeros (SCOPE 11.31).
-fn result_after(rows: &[i64], sizes: stores::validity::Sizes, o: Outcome) -> runs::RunResult
-    requires { T (sizes_right_of (the_sizes_of sizes)) × Stands (span (the_sizes_of sizes)) rows.now o }
-    ensures { (relations : List ℤ)
-        → RunLaws.result_of result ≡ run_after (span (the_sizes_of sizes)) (outcome_at rows.now relations o) }
+// The report of a run that was not refused, if no row is left (SCOPE 11.31).
+fn report_at(rows: &[i64], sizes: stores::validity::Sizes, p: Progress) -> Option<RunReport>
+    requires { T (sizes_right_of (the_sizes_of sizes)) × Stands (span (the_sizes_of sizes)) rows.now p }
+    ensures finished { finished_in (Ok result) ≡ leb p.rows p.settled }
+    ensures report { (relations : List ℤ)
+        → run_in (Ok result) ≡ run_after (span (the_sizes_of sizes)) (outcome_in rows.now relations (Ok p)) }
 {
-    let refusal = o.refusal;
-    if refusal != 0 {
-        return runs::refused(refusal);
+    if !p.is_done() {
+        return None;
     }
-    if !o.done {
-        return runs::refused(0);
-    }
-    let p = o.progress;
-    runs::accepted(rows, stores::validity::span(sizes), Side::Leading, p)
+    Some(runs::accepted(rows, stores::validity::span(sizes), Side::Leading, p))
 }
 
 // A run with a budget on a state that passes the checks.
@@ -155,15 +130,19 @@ fn checked_steps(
         count: state.relations,
         shifts: state.shifts,
     };
-    let m = moving::run_on(rows, relations, first, budget);
-    let o = m.outcome;
-    let left = state_after(sizes, o);
-    let run = result_after(rows, sizes, o);
-    StepsResult {
-        steps: m.taken,
-        finished: o.done,
-        state: left,
-        run,
+    let moved = moving::run_on(rows, relations, first, budget);
+    let steps = moved.taken;
+    match moved.run {
+        Ok(p) => StepsResult {
+            steps,
+            state: state_at(sizes, p),
+            run: Ok(report_at(rows, sizes, p)),
+        },
+        Err(refusal) => StepsResult {
+            steps,
+            state: no_state(),
+            run: Err(refusal),
+        },
     }
 }
 
@@ -178,15 +157,12 @@ pub fn run_steps(
     ensures { call_of result rows.new relations.new
         ≡ Calls.steps_call budget (held_of state) rows.old relations.old }
 {
-    let refusal = checks::check_state(rows, relations, state);
-    if refusal != 0 {
-        let run = runs::refused(refusal);
-        return StepsResult {
+    match checks::check_state(rows, relations, state) {
+        Ok(()) => checked_steps(rows, relations, state, budget),
+        Err(refusal) => StepsResult {
             steps: 0,
-            finished: false,
             state,
-            run,
-        };
+            run: Err(refusal),
+        },
     }
-    checked_steps(rows, relations, state, budget)
 }

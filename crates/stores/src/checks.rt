@@ -13,29 +13,15 @@ use polynomials::lengths::COEFFICIENTS;
 pub fn all_small(numbers: &[i64]) -> bool
     ensures { result ≡ every small numbers.now }
 {
-    let mut i = 0;
-    while i < numbers.len() {
-        if !integers::within_bound(numbers[i]) {
-            return false;
-        }
-        i += 1;
-    }
-    true
+    numbers.iter().all(|n| integers::within_bound(*n))
 }
 
 // The unused places of a store hold 0 (SCOPE 3.13): a long part of it, tested 64 numbers at a time.
 pub fn unused_zero(numbers: &[i64]) -> bool
     ensures { result ≡ is_zero_of numbers.now }
 {
-    let mut i = 0;
-    while 64 <= numbers.len() - i {
-        let end = i + 64;
-        if !polynomials::content::all_zero(&numbers[i..end]) {
-            return false;
-        }
-        i = end;
-    }
-    polynomials::content::all_zero(&numbers[i..])
+    let (blocks, rest) = numbers.as_chunks::<64>();
+    blocks.iter().all(|b| polynomials::content::all_zero(b)) && polynomials::content::all_zero(rest)
 }
 
 // The polynomial at a place of the row, block place / COLUMNS and column place % COLUMNS: outside the system's blocks and columns it
@@ -59,12 +45,10 @@ pub fn row_right(row: &[i64], m: usize, span: usize) -> bool
     requires { length row.now ≡ row_length }
     ensures { result ≡ (small_row (row_of row.now) && unused_zero_of m span (row_of row.now)) }
 {
-    let mut place = 0;
-    while place < POLYNOMIALS {
+    for place in 0..POLYNOMIALS {
         if !place_right(row, place, m, span) {
             return false;
         }
-        place += 1;
     }
     all_small(&row[ENTRIES..])
 }

@@ -20,12 +20,8 @@ pub fn load(store: &[i64], at: usize) -> [i64; ROW]
     requires { at + row_length ≤ length store.now }
     ensures { result ≡ take row_length (drop at store.now) }
 {
-    let mut row = [0i64; ROW];
-    let mut i = 0;
-    while i < ROW {
-        row[i] = store[at + i];
-        i += 1;
-    }
+    let mut row = [0; ROW];
+    row.copy_from_slice(row_at(store, at));
     row
 }
 
@@ -34,11 +30,8 @@ pub fn save(store: &mut [i64], at: usize, numbers: &[i64])
     requires { at + length numbers.now ≤ length store.old }
     ensures { store.new ≡ paste store.old at numbers.now (length numbers.now) }
 {
-    let mut i = 0;
-    while i < numbers.len() {
-        store[at + i] = numbers[i];
-        i += 1;
-    }
+    let end = at + numbers.len();
+    store[at..end].copy_from_slice(numbers);
 }
 
 // The store with zeros at `count` places from a place on; all others stay.
@@ -46,9 +39,6 @@ pub fn clear(store: &mut [i64], at: usize, count: usize)
     requires { at + count ≤ length store.old }
     ensures { store.new ≡ paste store.old at (replicate count (pos 0)) count }
 {
-    let mut i = 0;
-    while i < count {
-        store[at + i] = 0;
-        i += 1;
-    }
+    let end = at + count;
+    store[at..end].fill(0);
 }

@@ -3,14 +3,15 @@ ghost use Rattle.std.specs.Prelude.{◌≡◌, ◌+◌, ◌≤◌, ◌&&◌, T, 
 ghost use Rattle.std.specs.Int.Signed.{le_z};
 ghost use Rattle.rules.specs.Limits.{relation_length, most_equations};
 ghost use Rattle.lists.specs.Tests.{every};
+ghost use Rattle.refusals.specs.Refusals.{refusal_in};
 ghost use Rattle.rules.specs.Stores as Stores;
 ghost use Rattle.stores.specs.Validity.{the_sizes_of, relation_test};
 
 use crate::lengths::{RELATION, RELATIONS, ROW};
+use refusals::Refusal;
 
 // m unknowns, so many equations, blocks from t to l (SCOPE 1.1, 1.2).
-#[derive(Drop)]
-#[derive(Clone, Copy)]
+#[derive(Clone, Copy, Debug, PartialEq, Eq)]
 pub struct Sizes {
     pub m: usize,
     pub equations: usize,
@@ -63,12 +64,10 @@ pub fn rows_right(store: &[i64], sizes: Sizes, equations: usize) -> bool
 {
     let m = sizes.m;
     let d = span(sizes);
-    let mut i = 0;
-    while i < equations {
+    for i in 0..equations {
         if !crate::checks::row_right(crate::rows::row_at(store, i * ROW), m, d) {
             return false;
         }
-        i += 1;
     }
     true
 }
@@ -91,12 +90,10 @@ pub fn relations_right(store: &[i64], sizes: Sizes, count: usize) -> bool
 {
     let m = sizes.m;
     let d = span(sizes);
-    let mut k = 0;
-    while k < count {
+    for k in 0..count {
         if !relation_right(store, k * RELATION, m, d) {
             return false;
         }
-        k += 1;
     }
     true
 }
@@ -125,18 +122,23 @@ fn numbers_right(rows: &[i64], relations: &[i64], sizes: Sizes, count: usize) ->
     crate::checks::unused_zero(&relations[from..RELATIONS])
 }
 
-// The number of the first check that fails, or 0 (SCOPE 3.31).
-pub fn check_stores(rows: &[i64], relations: &[i64], sizes: Sizes, count: usize) -> u8
-    ensures { result ≡ Stores.check_stores_of (the_sizes_of sizes) count rows.now relations.now }
+// The refusal of the first check that fails (SCOPE 3.31).
+pub fn check_stores(
+    rows: &[i64],
+    relations: &[i64],
+    sizes: Sizes,
+    count: usize,
+) -> Result<(), Refusal>
+    ensures { refusal_in result ≡ Stores.check_stores_of (the_sizes_of sizes) count rows.now relations.now }
 {
     if !(sizes_right(sizes) && count <= 16) {
-        return 2;
+        return Err(Refusal::OutOfRange);
     }
     if !lengths_right(rows, relations, sizes.equations) {
-        return 1;
+        return Err(Refusal::ShortStore);
     }
     if !numbers_right(rows, relations, sizes, count) {
-        return 5;
+        return Err(Refusal::PastBound);
     }
-    0
+    Ok(())
 }

@@ -1,17 +1,18 @@
 -- A number with its judgement and its separator, read from a place in the bytes; and the laws of reading one thing after another.
 --
 -- Main definitions
---   read_of, Answers       what a refusal, a value and a next place say of what was to be read
+--   read_in, Reads         what a result says of what was to be read, by the value and the next place in it
+--   FoundIn                the same of a result with a number
+--   Judges, Follows        the calls of a judge give a judgement, and those of another function the separator after a value
 --   read_number_of, NumberAt  a number not yet judged
---   closing               what is done with it: its judgement, and the separator that has to follow
 --
 -- Main statements
---   answers-field         a number, its judgement and its separator are a field
+--   field-unread, field-refused, field-separated   a field is a number, its judgement and its separator
 --   field-judged          a number that was read as a field has passed its judgement
 --   then-cong, then-then, then-parts   one thing read after another
 --   between-zero          what a range lets through
 use Rattle.std.specs.Prelude.{◌≡◌, ℕ, zero, suc, ◌+◌, ◌-◌, ◌<◌, ◌≤◌, Bool, true, false, cond, ◌&&◌, T, List, [], ◌∷◌, length, drop, ℤ, pos, negsuc, neg_ℤ, ◌≤ℤ◌, FitsSigned, ◌==◌, ◌≢◌, int_le, nat_le, nat_lt, slice_index, slice_index_or, unsigned_abs}
-use Rattle.std.proofs.Common.{zero-le, suc-ne-zero, add-one, arith, ap₂, ◌∙◌, subst, eq-eqb, ne_eqb, leb-true, of_z, to_z, to_z-of_z}
+use Rattle.std.proofs.Common.{suc-ne-zero, add-one, arith, ◌∙◌, subst, eq-eqb, ne_eqb, leb-true, of_z, to_z, to_z-of_z}
 use Rattle.std.proofs.Math.Path.{refl, sym, ap}
 use Rattle.std.proofs.Math.Bool.{and-false}
 use Rattle.std.proofs.Math.Seq.{slice, drop-cons, drop-length}
@@ -19,66 +20,108 @@ use Rattle.std.specs.Int.Signed.{non_neg, le_z_yes}
 use Rattle.std.specs.Int.{w64}
 use Rattle.algebra.specs.Order.{≤ℤ-trans, nat_abs-≤-iff}
 use Rattle.lists.specs.Tests.{both_true}
+use Rattle.std.specs.Prelude.{Result, IfOk, IsErrAnd, ⊤}
+use Rattle.std.proofs.Common.{Ok, Err}
+use Rattle.refusals.specs.Refusals.{number_of as refusal_number, refusal_in, number-nonzero}
+use Rattle.refusals.specs.declared.Refusal.{Refusal}
+use Rattle.tokens.specs.declared.Found.{Found}
 use Rattle.rules.specs.Numbers.{is_separator_of, word, after_word, digits, starts_right_of, begins_number, is_number, number_of, Read, got, fault}
 use Rattle.rules.specs.Numbers.{then_read, judged, read_word, read_separator, field, between}
 use Rattle.tokens.specs.Tokens.{DigitsStart, DigitsTo, Stopped, token-cut, token-stops, digits-followed, begins-is, number_is}
 use Rattle.tokens.specs.Tokens.{number-of, unjudged}
 
--- ---- what a function answers
+-- ---- what a call answers
 
 -- A refusal of 0 gives the value and the bytes from the next place on; another gives that fault, whatever stands beside it.
 unfoldable pub read_of : {A : Type 0} → List ℕ → ℕ → A → ℕ → Read A
 read_of bytes zero v at = got v (drop at bytes)
 read_of bytes (suc n) v at = fault (suc n)
 
--- What was answered is what was to be read, and the next place is one of the bytes.
-pub record Answers {A : Type 0} (bytes : List ℕ) (refusal : ℕ) (value : A) (at : ℕ) (expected : Read A) : Type 0 where
-  pub answer : read_of bytes refusal value at ≡ expected
-  pub within : at ≤ length bytes
-
--- Beside a refusal, the value and the next place are 0.
-abbrev pub Unread : ℕ → ℤ → ℕ → Type 0
-Unread refusal value at = (refusal ≢ 0) → (value ≡ pos 0) × (at ≡ 0)
-
 pub fault-of : {A : Type 0} (bytes : List ℕ) (n : ℕ) (v : A) (at : ℕ) → (n ≢ 0) → read_of bytes n v at ≡ fault n
 unfolding read_of
 fault-of bytes zero v at h = absurd (h refl)
 fault-of bytes (suc n) v at h = refl
 
--- An answer with a refusal, and with none.
-module _ {A : Type 0} {bytes : List ℕ} {refusal : ℕ} {v : A} {at : ℕ} {expected : Read A} where
-  pub answer-fault : (refusal ≢ 0) → Answers bytes refusal v at expected → expected ≡ fault refusal
-  answer-fault h e = sym e.answer ∙ fault-of bytes refusal v at h
+module _ {A B : Type 0} (bytes : List ℕ) (value : A → B) (place : A → ℕ) where
+  -- A value and the bytes from the place behind it on, or the fault that the refusal is.
+  unfoldable pub read_in : Result A Refusal → Read B
+  read_in (Ok a) = got (value a) (drop (place a) bytes)
+  read_in (Err r) = fault (refusal_number r)
 
-  pub answer-got : refusal ≡ 0 → Answers bytes refusal v at expected → expected ≡ got v (drop at bytes)
-  unfolding read_of
-  answer-got z e = sym e.answer ∙ ap (λ n. read_of bytes n v at) z
+  -- What was answered is what was to be read, and the next place is one of the bytes.
+  pub record Reads (result : Result A Refusal) (expected : Read B) : Type 0 where
+    pub answer : read_in result ≡ expected
+    pub within : IfOk result (λ a. place a ≤ length bytes)
 
-  -- A function that refuses with n.
-  pub refuses : {n : ℕ} → (n ≢ 0) → expected ≡ fault n → (refusal ≡ n) × (at ≡ 0) → Answers bytes refusal v at expected
-  refuses {n} h e r =
-      record { answer = ap (λ k. read_of bytes k v at) r.0 ∙ fault-of bytes n v at h ∙ sym e; within = rw r.1 zero-le }
+-- The same of a result with a number.
+abbrev pub FoundIn : List ℕ → Result Found Refusal → Read ℤ → Type 0
+FoundIn bytes result expected = Reads bytes (λ n. n.value) (λ n. n.at) result expected
 
-  pub answers-as : {other : Read A} → Answers bytes refusal v at expected → expected ≡ other → Answers bytes refusal v at other
-  answers-as a e = record { answer = a.answer ∙ e; within = a.within }
+-- Each call of a judge gives the judgement.
+abbrev pub Judges : (ℤ → Result ⊤ Refusal → Type 0) → (ℤ → ℕ) → Type 0
+Judges P judge = (v : ℤ) → FitsSigned w64 v → (r : Result ⊤ Refusal) → P v r → refusal_in r ≡ judge v
 
--- A function that has read v.
-pub gives : {A : Type 0} {bytes : List ℕ} {v w : A} {at : ℕ} {expected : Read A} → w ≡ v → expected ≡ got v (drop at bytes)
-    → at ≤ length bytes
-    → Answers bytes 0 w at expected
-unfolding read_of
-gives {bytes = bytes} {at = at} same e h = record { answer = ap (λ v. got v (drop at bytes)) same ∙ sym e; within = h }
+-- Each call of a function gives the separator that follows a value.
+abbrev pub Follows : (ℤ → ℕ → Type 0) → (ℤ → ℕ) → Type 0
+Follows P follow = (v : ℤ) → FitsSigned w64 v → (b : ℕ) → P v b → b ≡ follow v
 
--- What is made of a value that was read.
-pub answers-made : {A B : Type 0} (make : A → B) {bytes : List ℕ} {refusal : ℕ} {v : A} {at : ℕ} {expected : Read A}
-    → Answers bytes refusal v at expected → Answers bytes refusal (make v) at (then_read expected (λ a rest. got (make a) rest))
-unfolding read_of then_read
-answers-made make {bytes} {refusal} {v} {at} a =
-    record { answer = made refusal ∙ ap (λ r. then_read r (λ a rest. got (make a) rest)) a.answer; within = a.within }
-  where
-    made : (n : ℕ) → read_of bytes n (make v) at ≡ then_read (read_of bytes n v at) (λ a rest. got (make a) rest)
-    made zero = refl
-    made (suc n) = refl
+-- The judgement of a value, as the code passes it.
+pub judge-at : {P : ℤ → Result ⊤ Refusal → Type 0} {judge : ℤ → ℕ} → ((v : ℤ) → FitsSigned w64 v → (r : Result ⊤ Refusal) → P v r → refusal_in r ≡ judge v)
+    → {v : ℤ} → FitsSigned w64 v → (r : Result ⊤ Refusal) → P (to_z w64 (of_z w64 v)) r → refusal_in r ≡ judge v
+judge-at {P} judges {v} fits r h = judges v fits r (subst (λ v. P v r) (to_z-of_z fits) h)
+
+pub follow-at : {P : ℤ → ℕ → Type 0} {follow : ℤ → ℕ} → ((v : ℤ) → FitsSigned w64 v → (b : ℕ) → P v b → b ≡ follow v)
+    → {v : ℤ} → FitsSigned w64 v → (b : ℕ) → P (to_z w64 (of_z w64 v)) b → b ≡ follow v
+follow-at {P} follows {v} fits b h = follows v fits b (subst (λ v. P v b) (to_z-of_z fits) h)
+
+-- A refusal that a `?` hands on.
+pub handed-on : {A : Type 0} (result : Result A Refusal) {r : Refusal} → IsErrAnd result (λ e. e ≡ r) → result ≡ Err r
+handed-on (Ok a) same = absurd same
+handed-on (Err e) same = ap (λ e. Err e) same
+
+-- An answer that is a refusal, and one that is none.
+module _ {A B : Type 0} {bytes : List ℕ} {value : A → B} {place : A → ℕ} {expected : Read B} where
+  pub read-err : {r : Refusal} → Reads bytes value place (Err r) expected → expected ≡ fault (refusal_number r)
+  unfolding read_in
+  read-err e = sym e.answer
+
+  pub read-ok : {a : A} → Reads bytes value place (Ok a) expected → expected ≡ got (value a) (drop (place a) bytes)
+  unfolding read_in
+  read-ok e = sym e.answer
+
+  pub read-within : {a : A} → Reads bytes value place (Ok a) expected → place a ≤ length bytes
+  read-within e = e.within
+
+  -- A function that refuses, and one that has read a.
+  pub fails : {r : Refusal} → expected ≡ fault (refusal_number r) → Reads bytes value place (Err r) expected
+  unfolding read_in
+  fails e = record { answer = sym e; within = tt }
+
+  -- A function that hands on a refusal.
+  pub fails-on : (result : Result A Refusal) (r : Refusal) → IsErrAnd result (λ e. e ≡ r) → expected ≡ fault (refusal_number r)
+      → Reads bytes value place result expected
+  fails-on (Ok a) r same f = absurd same
+  fails-on (Err e) r same f = fails (f ∙ ap (λ e. fault (refusal_number e)) (sym same))
+
+  -- What is made of a value that was read.
+  pub reads-made : {C : Type 0} (make : B → C) {result : Result A Refusal} → Reads bytes value place result expected
+      → Reads bytes (λ a. make (value a)) place result (then_read expected (λ b rest. got (make b) rest))
+  unfolding read_in then_read
+  reads-made make {result} e = record { answer = made result ∙ ap (λ r. then_read r (λ b rest. got (make b) rest)) e.answer; within = e.within }
+    where
+      made : (r : Result A Refusal) → read_in bytes (λ a. make (value a)) place r
+          ≡ then_read (read_in bytes value place r) (λ b rest. got (make b) rest)
+      made (Ok a) = refl
+      made (Err r) = refl
+
+  pub reads : {a : A} {w : B} → value a ≡ w → expected ≡ got w (drop (place a) bytes) → place a ≤ length bytes
+      → Reads bytes value place (Ok a) expected
+  unfolding read_in
+  reads {a} same e h = record { answer = ap (λ v. got v (drop (place a) bytes)) same ∙ sym e; within = h }
+
+  pub reads-as : {result : Result A Refusal} {other : Read B} → Reads bytes value place result expected → expected ≡ other
+      → Reads bytes value place result other
+  reads-as a e = record { answer = a.answer ∙ e; within = a.within }
 
 module _ {A B : Type 0} (f : A → List ℕ → Read B) where
   pub then-got : {r : Read A} {a : A} {rest : List ℕ} → r ≡ got a rest → then_read r f ≡ f a rest
@@ -97,15 +140,9 @@ unfolding read_word word after_word
 read_number_of bytes = read_word unjudged (word bytes) (after_word bytes)
 
 -- The answer to reading a number at a place.
-pub record NumberAt (bytes : List ℕ) (at refusal : ℕ) (value : ℤ) (next : ℕ) : Type 0 where
-  pub answer : read_of bytes refusal value next ≡ read_number_of (drop at bytes)
-  pub separator : refusal ≡ 0 → next < length bytes
-  pub unread : Unread refusal value next
-
--- What is done with a number that was read: its judgement, and the separator that has to follow.
-unfoldable pub closing : ℕ → ℕ → ℤ → List ℕ → Read ℤ
-unfolding then_read judged read_separator
-closing judgement separator v rest = then_read (judged judgement v rest) (read_separator separator)
+pub record NumberAt (bytes : List ℕ) (at : ℕ) (result : Result Found Refusal) : Type 0 where
+  pub answer : read_in bytes (λ n. n.value) (λ n. n.at) result ≡ read_number_of (drop at bytes)
+  pub separator : IfOk result (λ n. n.at < length bytes)
 
 -- What cannot begin a number is 3, be a separator behind it or not (SCOPE 4.32, 4.33).
 not-begun : (w rest : List ℕ) → begins_number w ≡ false → read_word unjudged w rest ≡ fault 3
@@ -138,95 +175,84 @@ module _ (bytes : List ℕ) (at from end v : ℕ) (start : DigitsStart bytes at 
         ap (read_word unjudged (word (drop at bytes))) (start.rest ∙ t.rest ∙ drop-cons bytes end 0 h)
         ∙ rw (number_is bytes at from end v start read t, number-of bytes at from end v start read t, drop-cons bytes end 0 h)
 
-pub number-refuses : {bytes : List ℕ} {at refusal : ℕ} {v : ℤ} {next n : ℕ} → (n ≢ 0) → read_number_of (drop at bytes) ≡ fault n
-    → (refusal ≡ n) × (v ≡ pos 0) × (next ≡ 0) → NumberAt bytes at refusal v next
-number-refuses {bytes} {v = v} {next = next} h e r =
-    record {
-      answer = (refuses {v = v} h e (r.0, r.2)).answer;
-      separator = λ z. absurd (h (sym r.0 ∙ z));
-      unread = λ _. (r.1, r.2);
-    }
+-- A call that finds no number, and one that finds v.
+module _ {bytes : List ℕ} {at : ℕ} where
+  pub number-fails : {r : Refusal} → read_number_of (drop at bytes) ≡ fault (refusal_number r) → NumberAt bytes at (Err r)
+  unfolding read_in
+  number-fails e = record { answer = sym e; separator = tt }
 
-module _ (bytes : List ℕ) (n : ℕ) (v : ℤ) (at judgement separator : ℕ) where
-  -- The number's own refusal comes first, then its judgement, then the separator (SCOPE 4.33, 4.34, 4.36).
-  pub closing-refused : (n ≢ 0) → then_read (read_of bytes n v at) (closing judgement separator) ≡ fault n
-  closing-refused h = then-fault (closing judgement separator) (fault-of bytes n v at h)
+  pub number-err : {r : Refusal} → NumberAt bytes at (Err r) → read_number_of (drop at bytes) ≡ fault (refusal_number r)
+  unfolding read_in
+  number-err e = sym e.answer
 
-  module _ (z : n ≡ 0) where
-    closing-read : then_read (read_of bytes n v at) (closing judgement separator) ≡ closing judgement separator v (drop at bytes)
-    unfolding read_of
-    closing-read = then-got (closing judgement separator) (ap (λ n. read_of bytes n v at) z)
+  pub number-ok : {n : Found} → NumberAt bytes at (Ok n) → read_number_of (drop at bytes) ≡ got n.value (drop n.at bytes)
+  unfolding read_in
+  number-ok e = sym e.answer
 
-    pub closing-judged : (judgement ≢ 0) → then_read (read_of bytes n v at) (closing judgement separator) ≡ fault judgement
-    unfolding closing
-    closing-judged h = closing-read ∙ then-fault (read_separator separator) (fault-judged judgement h)
-      where
-        fault-judged : (j : ℕ) → (j ≢ 0) → judged j v (drop at bytes) ≡ fault j
-        fault-judged zero h = absurd (h refl)
-        fault-judged (suc j) h = refl
+-- A judge that refuses, and one that lets a value pass.
+module _ {A : Type 0} {result : Result A Refusal} {n : ℕ} (same : refusal_in result ≡ n) where
+  pub judge-err : {r : Refusal} → result ≡ Err r → n ≡ refusal_number r
+  judge-err e = sym same ∙ ap refusal_in e
 
-    module _ (j : judgement ≡ 0) (inside : at < length bytes) where
-      closing-separator : then_read (read_of bytes n v at) (closing judgement separator)
-          ≡ read_separator separator v (slice_index bytes at ∷ drop (suc at) bytes)
-      unfolding closing
-      closing-separator =
-          closing-read
-          ∙ then-got (read_separator separator) (ap (λ k. judged k v (drop at bytes)) j)
-          ∙ ap (read_separator separator v) (drop-cons bytes at 0 inside)
+  pub judge-ok : {a : A} → result ≡ Ok a → n ≡ 0
+  judge-ok e = sym same ∙ ap refusal_in e
 
-      pub closing-wrong : (slice_index bytes at ≢ separator) → then_read (read_of bytes n v at) (closing judgement separator) ≡ fault 3
-      unfolding read_separator
-      closing-wrong h =
-          closing-separator ∙ ap (λ t. cond t (got v (drop (suc at) bytes)) (fault 3)) (ne_eqb (slice_index bytes at) separator h)
-
-      pub closing-right : slice_index_or bytes at 0 ≡ separator
-          → then_read (read_of bytes n v at) (closing judgement separator) ≡ got v (drop (at + 1) bytes)
-      unfolding read_separator
-      closing-right e =
-          closing-separator
-          ∙ ap (λ t. cond t (got v (drop (suc at) bytes)) (fault 3)) (eq-eqb (slice_index bytes at) separator e)
-          ∙ ap (λ k. got v (drop k bytes)) (sym (add-one at))
-
--- A field is a number, its judgement and its separator.
+-- A field is a number, its judgement and its separator: the first that is wrong tells the fault (SCOPE 4.33, 4.34, 4.36).
 module _ (judge follow : ℤ → ℕ) where
-  closing-field : (v : ℤ) (rest : List ℕ) (j : ℕ)
-      → closing j (follow v) v rest ≡ then_read (judged j v rest) (λ u more. read_separator (follow u) u more)
-  unfolding closing then_read judged
-  closing-field v rest zero = refl
-  closing-field v rest (suc j) = refl
+  judged_then : ℤ → List ℕ → Read ℤ
+  judged_then v rest = then_read (judged (judge v) v rest) (λ u more. read_separator (follow u) u more)
 
   field-split : (w rest : List ℕ)
-      → then_read (read_word unjudged w rest) (λ v more. closing (judge v) (follow v) v more)
+      → then_read (read_word unjudged w rest) judged_then
       ≡ then_read (read_word judge w rest) (λ v more. read_separator (follow v) v more)
-  unfolding then_read read_word unjudged judged
+  unfolding then_read read_word unjudged judged judged_then
   field-split w [] = refl
   field-split w (b ∷ rest) = by (is_number w)
     where
       by : (t : Bool)
-          → then_read (cond t (got (number_of w) (b ∷ rest)) (fault 3)) (λ v more. closing (judge v) (follow v) v more)
+          → then_read (cond t (got (number_of w) (b ∷ rest)) (fault 3)) judged_then
           ≡ then_read (cond t (judged (judge (number_of w)) (number_of w) (b ∷ rest)) (fault 3)) (λ v more. read_separator (follow v) v more)
-      by true = closing-field (number_of w) (b ∷ rest) (judge (number_of w))
+      by true = refl
       by false = refl
 
-  closing-of : (bytes : List ℕ) (n : ℕ) (v : ℤ) (at : ℕ)
-      → then_read (read_of bytes n v at) (closing (judge v) (follow v))
-      ≡ then_read (read_of bytes n v at) (λ u more. closing (judge u) (follow u) u more)
-  unfolding then_read read_of
-  closing-of bytes zero v at = refl
-  closing-of bytes (suc n) v at = refl
-
-  -- What `separated` answers is a field, where it is told the judgement and the separator of the number as an i64.
-  pub answers-field : {bytes : List ℕ} {at n : ℕ} {v : ℤ} {next judgement separator refusal : ℕ} {value : ℤ} {after : ℕ}
-      → NumberAt bytes at n v next → FitsSigned w64 v → judgement ≡ judge (to_z w64 (of_z w64 v)) → separator ≡ follow (to_z w64 (of_z w64 v))
-      → Answers bytes refusal value after (then_read (read_of bytes n v next) (closing judgement separator))
-      → Answers bytes refusal value after (field judge follow (drop at bytes))
+  field-is : (bytes : List ℕ) → field judge follow bytes ≡ then_read (read_number_of bytes) judged_then
   unfolding field read_number_of
-  answers-field {bytes} {at} {n} {v} {next} read fits j s a =
-      answers-as a
-      (ap₂ (λ j s. then_read (read_of bytes n v next) (closing j s)) (j ∙ ap judge (to_z-of_z fits)) (s ∙ ap follow (to_z-of_z fits))
-      ∙ closing-of bytes n v next
-      ∙ ap (λ r. then_read r (λ u more. closing (judge u) (follow u) u more)) read.answer
-      ∙ field-split (word (drop at bytes)) (after_word (drop at bytes)))
+  field-is bytes = sym (field-split (word bytes) (after_word bytes))
+
+  module _ (bytes : List ℕ) where
+    pub field-unread : {n : ℕ} → read_number_of bytes ≡ fault n → field judge follow bytes ≡ fault n
+    field-unread e = field-is bytes ∙ then-fault judged_then e
+
+    module _ {v : ℤ} {rest : List ℕ} (read : read_number_of bytes ≡ got v rest) where
+      pub field-refused : (r : Refusal) → judge v ≡ refusal_number r → field judge follow bytes ≡ fault (refusal_number r)
+      unfolding judged_then judged
+      field-refused r e = field-is bytes ∙ then-got judged_then read ∙ then-fault _ (by (judge v) (λ z. number-nonzero r (sym e ∙ z)) ∙ ap fault e)
+        where
+          by : (j : ℕ) → (j ≢ 0) → judged j v rest ≡ fault j
+          by zero h = absurd (h refl)
+          by (suc j) h = refl
+
+      pub field-separated : {separator : ℕ} → judge v ≡ 0 → separator ≡ follow v → read_separator separator v rest ≡ field judge follow bytes
+      unfolding judged_then judged
+      field-separated z s =
+          ap (λ b. read_separator b v rest) s
+          ∙ sym (field-is bytes ∙ then-got judged_then read
+          ∙ then-got (λ u more. read_separator (follow u) u more) (ap (λ j. judged j v rest) z))
+
+-- The separator behind a number that was read.
+module _ (bytes : List ℕ) (at separator : ℕ) (v : ℤ) (inside : at < length bytes) where
+  pub separator-wrong : (slice_index bytes at ≢ separator) → read_separator separator v (drop at bytes) ≡ fault 3
+  unfolding read_separator
+  separator-wrong h =
+      ap (read_separator separator v) (drop-cons bytes at 0 inside)
+      ∙ ap (λ t. cond t (got v (drop (suc at) bytes)) (fault 3)) (ne_eqb (slice_index bytes at) separator h)
+
+  pub separator-right : slice_index_or bytes at 0 ≡ separator → read_separator separator v (drop at bytes) ≡ got v (drop (at + 1) bytes)
+  unfolding read_separator
+  separator-right e =
+      ap (read_separator separator v) (drop-cons bytes at 0 inside)
+      ∙ ap (λ t. cond t (got v (drop (suc at) bytes)) (fault 3)) (eq-eqb (slice_index bytes at) separator e)
+      ∙ ap (λ k. got v (drop k bytes)) (sym (add-one at))
 
 -- ---- laws of reading one thing after another
 

@@ -14,26 +14,26 @@
 --   digit-right, whole-number   one digit starts right; digits that start right, with a separator behind them, are a number
 --   digits-some, signed-some   a number that does not begin with 0 is not 0
 --   closed-field          a number that was read with its separator, judged, is a field
-use Rattle.std.specs.Prelude.{◌≡◌, ℕ, zero, suc, ◌+◌, ◌-◌, ◌*◌, ◌<◌, ◌≤◌, Bool, true, false, cond, not, ◌&&◌, List, [], ◌∷◌, length, drop, ℤ, pos, neg_ℤ, FitsSigned, ◌==◌, ◌≢◌, nat_le, nat_lt, slice_index, slice_index_or, unsigned_abs}
-use Rattle.std.proofs.Common.{le_refl, ◌∙◌, of_z, to_z}
+use Rattle.std.specs.Prelude.{◌≡◌, ℕ, zero, suc, ◌+◌, ◌-◌, ◌*◌, ◌<◌, ◌≤◌, Bool, true, false, cond, not, ◌&&◌, List, [], ◌∷◌, length, drop, ℤ, pos, neg_ℤ, ◌==◌, ◌≢◌, nat_le, nat_lt, slice_index, slice_index_or, unsigned_abs}
+use Rattle.std.proofs.Common.{le_refl, ◌∙◌}
 use Rattle.std.proofs.Math.Decide.{ℕ_discrete}
 use native.Mathlib.Omega.{arith}
 use Rattle.std.proofs.Math.Path.{refl, sym, ap, ap₂, subst}
 use Rattle.std.proofs.lemmas.Bool.{false≢true}
 use Rattle.std.proofs.Math.Seq.{slice}
-use borrow.Author.Tests.{eq-eqb, le-ltb, le-leb, eqb-true, eqb-false, leb-true, not-true, ne_eqb}
+use borrow.Author.Tests.{eq-eqb, le-ltb, le-leb, eqb-true, eqb-false, leb-true, not-true}
 use Rattle.std.proofs.Math.Arith.{lt_of_le-ne}
-use Rattle.std.specs.Int.{w64}
 use Rattle.lists.specs.Tests.{both_true, every}
 use Rattle.algebra.specs.Integers.{nat_abs-neg_ℤ}
-use Rattle.rules.specs.Numbers.{minus, is_separator_of, is_digit_of, starts_right_of, value_from, got, fault, then_read, field}
+use Rattle.rules.specs.Numbers.{minus, is_separator_of, is_digit_of, starts_right_of, value_from, got, fault, field}
 use Rattle.tokens.specs.Tokens.{DigitsStart, DigitsTo, digits-signed, digits-unsigned, digits-begin, digits-go-on}
 use Rattle.tokens.specs.Tokens.{digit-bounds, slice-next, starts-nonzero, starts-zero}
-use Rattle.tokens.specs.Fields.{Answers, NumberAt, Unread, read_of, read_number_of, gives, refuses, closing}
-use Rattle.tokens.specs.Fields.{number-whole, closing-judged, closing-right, answers-field}
+use Rattle.tokens.specs.Fields.{NumberAt, read_in, read_number_of, number-whole, field-refused, field-separated, separator-right}
+use Rattle.refusals.specs.Refusals.{number_of as refusal_number}
+use Rattle.refusals.specs.declared.Refusal.{Refusal}
 use Rattle.tokens.specs.declared.Found.{Found}
-use Rattle.tokens.specs.declared.Straight.{Straight}
-use Rattle.tokens.specs.declared.Straight.TheVariants.{Number, Other}
+use Rattle.std.specs.Prelude.{Option}
+use Rattle.std.proofs.Common.{Some, None, Ok}
 
 -- ---- eight digits
 
@@ -259,44 +259,20 @@ pub record Closed (bytes : List ℕ) (at separator : ℕ) (value : ℤ) (next : 
   pub number : read_number_of (drop at bytes) ≡ got value (drop end bytes)
   pub mark : slice_index_or bytes end 0 ≡ separator
 
--- A number that was judged: beside a judgement that is not 0 stand zeros.
-pub record Judged (v : ℤ) (next judgement refusal : ℕ) (value : ℤ) (after : ℕ) : Type 0 where
-  pub refused : refusal ≡ judgement
-  pub number : value ≡ cond (judgement == 0) v (pos 0)
-  pub place : after ≡ cond (judgement == 0) next 0
+pub closed-within : {bytes : List ℕ} {at separator : ℕ} {v : ℤ} {next : ℕ} → Closed bytes at separator v next → next ≤ length bytes
+closed-within d = omega (arith, d.behind, d.inside)
 
+-- Such a number, judged, is a field.
 module _ (judge follow : ℤ → ℕ) {bytes : List ℕ} {at separator : ℕ} {v : ℤ} {next : ℕ}
-    (d : Closed bytes at separator v next) (fits : FitsSigned w64 v) where
-  closed-number : NumberAt bytes at 0 v d.end
-  unfolding read_of
-  closed-number = record { answer = sym d.number; separator = λ _. d.inside; unread = λ h. absurd (h refl) }
+    (d : Closed bytes at separator v next) where
+  pub closed-refused : (r : Refusal) → judge v ≡ refusal_number r → field judge follow (drop at bytes) ≡ fault (refusal_number r)
+  closed-refused = field-refused judge follow (drop at bytes) d.number
 
-  -- Such a number, judged, is a field.
-  pub closed-field : {judgement refusal : ℕ} {value : ℤ} {after : ℕ} → judgement ≡ judge (to_z w64 (of_z w64 v))
-      → separator ≡ follow (to_z w64 (of_z w64 v))
-      → Judged v next judgement refusal value after
-      → Answers bytes refusal value after (field judge follow (drop at bytes))
-  closed-field {judgement} {refusal} {value} {after} j s r =
-      answers-field judge follow {at = at} {next = d.end} closed-number fits j s (by (ℕ_discrete judgement 0))
-    where
-      by : Dec (judgement ≡ 0)
-          → Answers bytes refusal value after (then_read (read_of bytes 0 v d.end) (closing judgement separator))
-      by (yes z) =
-          let t = eq-eqb judgement 0 z in
-          rw (r.refused, r.number, r.place, t, z)
-          (gives refl
-          (closing-right bytes 0 v d.end 0 separator refl refl d.inside d.mark
-          ∙ ap (λ k. got v (drop k bytes)) (sym d.behind))
-          (omega (arith, d.behind, d.inside)))
-      by (no n) =
-          refuses n (closing-judged bytes 0 v d.end judgement separator refl n)
-          (r.refused, r.place ∙ ap (λ t. cond t next 0) (ne_eqb judgement 0 n))
-
-pub judged-unread : {v : ℤ} {next judgement refusal : ℕ} {value : ℤ} {after : ℕ}
-    → Judged v next judgement refusal value after → Unread refusal value after
-judged-unread {v} {next} {judgement} r h =
-    let t = ne_eqb judgement 0 (λ z. h (r.refused ∙ z)) in
-    (r.number ∙ ap (λ t. cond t v (pos 0)) t, r.place ∙ ap (λ t. cond t next 0) t)
+  pub closed-field : separator ≡ follow v → judge v ≡ 0 → field judge follow (drop at bytes) ≡ got v (drop next bytes)
+  closed-field s z =
+      sym (field-separated judge follow (drop at bytes) d.number z s)
+      ∙ separator-right bytes d.end separator v d.inside d.mark
+      ∙ ap (λ k. got v (drop k bytes)) (sym d.behind)
 
 -- ---- what the straight ways read
 
@@ -310,11 +286,11 @@ signed_by sign size = cond sign (neg_ℤ (pos size)) (pos size)
 
 -- What is found straight: a number by its sign and its size, and the place after it, if a test passes; otherwise nothing.
 -- Test, size and place are told by where the digits begin.
-unfoldable pub found_at : List ℕ → ℕ → (ℕ → Bool) → (ℕ → ℕ) → (ℕ → ℕ) → Straight
+unfoldable pub found_at : List ℕ → ℕ → (ℕ → Bool) → (ℕ → ℕ) → (ℕ → ℕ) → Option Found
 unfolding digits_from_of
 found_at bytes at test size next =
     let from = digits_from_of bytes at in
-    cond (test from) (Number (record { value = signed_by (nat_lt at from) (size from); at = next from })) Other
+    cond (test from) (Some (record { value = signed_by (nat_lt at from) (size from); at = next from })) None
 
 -- One digit: three bytes are left, the separator that was asked for stands behind it, and a 0 has no sign.
 unfoldable pub is_digit_at : List ℕ → ℕ → ℕ → ℕ → Bool
@@ -322,7 +298,7 @@ is_digit_at bytes at from separator =
     nat_le 3 (length bytes - at) && slice_index bytes (from + 1) == separator && is_separator_of separator
     && is_digit_of (slice_index bytes from) && nat_le (from - at) (slice_index bytes from - 48)
 
-unfoldable pub digit_at_of : List ℕ → ℕ → ℕ → Straight
+unfoldable pub digit_at_of : List ℕ → ℕ → ℕ → Option Found
 unfolding found_at is_digit_at
 digit_at_of bytes at separator =
     found_at bytes at (λ from. is_digit_at bytes at from separator) (λ from. slice_index bytes from - 48) (λ from. from + 1 + 1)
@@ -334,7 +310,7 @@ are_digits_at bytes at from separator =
     nat_le 12 (length bytes - at) && is_separator_of separator && not (slice_index bytes from == 48)
     && is_digit_of (slice_index bytes from) && slice_index bytes (digits_end bytes from (at + 10 - from)) == separator
 
-unfoldable pub digits_at_of : List ℕ → ℕ → ℕ → Straight
+unfoldable pub digits_at_of : List ℕ → ℕ → ℕ → Option Found
 unfolding found_at are_digits_at value_from
 digits_at_of bytes at separator =
     found_at bytes at (λ from. are_digits_at bytes at from separator) (λ from. digits_size bytes from (at + 10 - from))
@@ -347,37 +323,37 @@ is_long_at bytes at from =
     nat_le 12 (length bytes - at) && eight_digits_of bytes from && not (slice_index bytes from == 48)
     && is_separator_of (slice_index bytes (digits_end bytes from 10))
 
-unfoldable pub long_at_of : List ℕ → ℕ → Straight
+unfoldable pub long_at_of : List ℕ → ℕ → Option Found
 unfolding found_at is_long_at value_from
 long_at_of bytes at =
     found_at bytes at (λ from. is_long_at bytes at from) (λ from. digits_size bytes from 10)
     (λ from. digits_end bytes from 10)
 
 module _ (bytes : List ℕ) (at : ℕ) (test : ℕ → Bool) (size next : ℕ → ℕ) where
-  abbrev found_from : ℕ → Bool → Straight
-  found_from from t = cond t (Number (record { value = signed_by (nat_lt at from) (size from); at = next from })) Other
+  abbrev found_from : ℕ → Bool → Option Found
+  found_from from t = cond t (Some (record { value = signed_by (nat_lt at from) (size from); at = next from })) None
 
   module _ {from : ℕ} (e : from ≡ digits_from_of bytes at) where
-    found_none : test from ≡ false → Other ≡ found_at bytes at test size next
+    found_none : test from ≡ false → None ≡ found_at bytes at test size next
     unfolding found_at
     found_none f = sym (ap (found_from from) f) ∙ ap (λ k. found_from k (test k)) e
 
     found_number : {v : ℤ} {place : ℕ} → test from ≡ true → v ≡ signed_by (nat_lt at from) (size from)
-        → place ≡ next from → Number (record { value = v; at = place }) ≡ found_at bytes at test size next
+        → place ≡ next from → Some (record { value = v; at = place }) ≡ found_at bytes at test size next
     unfolding found_at
     found_number f g h =
-        ap₂ (λ v k. Number (record { value = v; at = k })) g h ∙ sym (ap (found_from from) f)
+        ap₂ (λ v k. Some (record { value = v; at = k })) g h ∙ sym (ap (found_from from) f)
         ∙ ap (λ k. found_from k (test k)) e
 
   -- What was found, where something was.
-  found-is : {d : Found} → found_at bytes at test size next ≡ Number d
+  found-is : {d : Found} → found_at bytes at test size next ≡ Some d
       → (test (digits_from_of bytes at) ≡ true)
       × (signed_by (nat_lt at (digits_from_of bytes at)) (size (digits_from_of bytes at)) ≡ d.value)
       × (next (digits_from_of bytes at) ≡ d.at)
   unfolding found_at
   found-is {d} e = by (test (digits_from_of bytes at)) e
     where
-      by : (t : Bool) → found_from (digits_from_of bytes at) t ≡ Number d
+      by : (t : Bool) → found_from (digits_from_of bytes at) t ≡ Some d
           → (t ≡ true)
           × (signed_by (nat_lt at (digits_from_of bytes at)) (size (digits_from_of bytes at)) ≡ d.value)
           × (next (digits_from_of bytes at) ≡ d.at)
@@ -390,7 +366,7 @@ module _ (bytes : List ℕ) (at : ℕ) (test : ℕ → Bool) (size next : ℕ �
 -- What each straight way answers, told by where the digits begin.
 module _ (bytes : List ℕ) (at : ℕ) {from : ℕ} (e : from ≡ digits_from_of bytes at) where
   module _ (separator : ℕ) where
-    pub digit-none : is_digit_at bytes at from separator ≡ false → Other ≡ digit_at_of bytes at separator
+    pub digit-none : is_digit_at bytes at from separator ≡ false → None ≡ digit_at_of bytes at separator
     unfolding digit_at_of
     digit-none =
         found_none bytes at (λ from. is_digit_at bytes at from separator) (λ from. slice_index bytes from - 48)
@@ -398,13 +374,13 @@ module _ (bytes : List ℕ) (at : ℕ) {from : ℕ} (e : from ≡ digits_from_of
 
     pub digit-found : {v : ℤ} {place : ℕ} → is_digit_at bytes at from separator ≡ true
         → v ≡ signed_by (nat_lt at from) (slice_index bytes from - 48) → place ≡ from + 1 + 1
-        → Number (record { value = v; at = place }) ≡ digit_at_of bytes at separator
+        → Some (record { value = v; at = place }) ≡ digit_at_of bytes at separator
     unfolding digit_at_of
     digit-found =
         found_number bytes at (λ from. is_digit_at bytes at from separator) (λ from. slice_index bytes from - 48)
         (λ from. from + 1 + 1) e
 
-    pub digits-none : are_digits_at bytes at from separator ≡ false → Other ≡ digits_at_of bytes at separator
+    pub digits-none : are_digits_at bytes at from separator ≡ false → None ≡ digits_at_of bytes at separator
     unfolding digits_at_of
     digits-none =
         found_none bytes at (λ from. are_digits_at bytes at from separator)
@@ -413,13 +389,13 @@ module _ (bytes : List ℕ) (at : ℕ) {from : ℕ} (e : from ≡ digits_from_of
     pub digits-found : {v : ℤ} {place : ℕ} → are_digits_at bytes at from separator ≡ true
         → v ≡ signed_by (nat_lt at from) (digits_size bytes from (at + 10 - from))
         → place ≡ digits_end bytes from (at + 10 - from) + 1
-        → Number (record { value = v; at = place }) ≡ digits_at_of bytes at separator
+        → Some (record { value = v; at = place }) ≡ digits_at_of bytes at separator
     unfolding digits_at_of
     digits-found =
         found_number bytes at (λ from. are_digits_at bytes at from separator)
         (λ from. digits_size bytes from (at + 10 - from)) (λ from. digits_end bytes from (at + 10 - from) + 1) e
 
-  pub long-none : is_long_at bytes at from ≡ false → Other ≡ long_at_of bytes at
+  pub long-none : is_long_at bytes at from ≡ false → None ≡ long_at_of bytes at
   unfolding long_at_of
   long-none =
       found_none bytes at (λ from. is_long_at bytes at from) (λ from. digits_size bytes from 10)
@@ -427,7 +403,7 @@ module _ (bytes : List ℕ) (at : ℕ) {from : ℕ} (e : from ≡ digits_from_of
 
   pub long-found : {v : ℤ} {place : ℕ} → is_long_at bytes at from ≡ true
       → v ≡ signed_by (nat_lt at from) (digits_size bytes from 10) → place ≡ digits_end bytes from 10
-      → Number (record { value = v; at = place }) ≡ long_at_of bytes at
+      → Some (record { value = v; at = place }) ≡ long_at_of bytes at
   unfolding long_at_of
   long-found =
       found_number bytes at (λ from. is_long_at bytes at from) (λ from. digits_size bytes from 10)
@@ -450,7 +426,7 @@ start-near bytes at = by (slice_index bytes at == minus)
     by false = (omega arith, omega arith)
 
 module _ {bytes : List ℕ} {at : ℕ} {d : Found} where
-  pub digit-closed : {separator : ℕ} → digit_at_of bytes at separator ≡ Number d
+  pub digit-closed : {separator : ℕ} → digit_at_of bytes at separator ≡ Some d
       → Closed bytes at separator d.value d.at
   unfolding digit_at_of is_digit_at
   digit-closed {separator} e =
@@ -476,7 +452,7 @@ module _ {bytes : List ℕ} {at : ℕ} {d : Found} where
       }
 
   -- Such a number is not 0.
-  pub digits-closed : {separator : ℕ} → digits_at_of bytes at separator ≡ Number d
+  pub digits-closed : {separator : ℕ} → digits_at_of bytes at separator ≡ Some d
       → Closed bytes at separator d.value d.at × (d.value ≢ pos 0)
   unfolding digits_at_of are_digits_at
   digits-closed {separator} e =
@@ -508,9 +484,9 @@ module _ {bytes : List ℕ} {at : ℕ} {d : Found} where
         λ z. signed-some (nat_lt at from) _ (digits-some bytes from end _ read some first) (f.1 ∙ z),
       )
 
-  pub long-number : {v : ℤ} → long_at_of bytes at ≡ Number d → v ≡ d.value → NumberAt bytes at 0 v d.at
-  unfolding long_at_of is_long_at eight_digits_of four_digits_of two_digits_of read_of
-  long-number e same =
+  pub long-number : long_at_of bytes at ≡ Some d → NumberAt bytes at (Ok d)
+  unfolding long_at_of is_long_at eight_digits_of four_digits_of two_digits_of read_in
+  long-number e =
       let from = digits_from_of bytes at in
       let end = digits_end bytes from 10 in
       let f = found-is bytes at (λ from. is_long_at bytes at from) (λ from. digits_size bytes from 10)
@@ -528,10 +504,9 @@ module _ {bytes : List ℕ} {at : ℕ} {d : Found} where
       let some : from < end = front-some bytes from 10 (omega arith) digit in
       record {
         answer =
-            ap₂ (λ n k. got n (drop k bytes)) (same ∙ sym f.1) (sym f.2)
+            ap₂ (λ n k. got n (drop k bytes)) (sym f.1) (sym f.2)
             ∙ sym
             (whole-number (start-at bytes at (omega arith)) read some (omega arith) t.1
             (starts-nonzero bytes from end (nat_lt at from) some (omega arith) first));
-        separator = λ _. omega (arith, f.2);
-        unread = λ h. absurd (h refl);
+        separator = omega (arith, f.2);
       }

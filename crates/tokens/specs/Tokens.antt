@@ -5,7 +5,7 @@
 --   TokenEnd, TokenTo     the token from a place on ends at another place, or goes at least up to it
 --   DigitsStart           where the digits of a token begin
 --   DigitsTo, Stopped     the digits that were read, and that no other follows or they are ten
---   token_answer           what the cases of `Token` mean
+--   token_answer           a token that was read, or none
 --
 -- Main statements
 --   token-goes-on, token-stops, token-cut   a token goes on at a byte that is no separator, and ends at one or at the end of the bytes
@@ -24,8 +24,8 @@ use Rattle.std.proofs.Math.Decide.{ℕ_discrete}
 use Rattle.lists.specs.Tests.{T-&&, every, every_append}
 use Rattle.rules.specs.Numbers.{minus, is_separator_of, word, after_word, is_digit_of, signed, digits, starts_right_of, begins_number, is_number}
 use Rattle.rules.specs.Numbers.{value_from, number_of, Read, got, fault}
-use Rattle.tokens.specs.declared.Token.{Token}
-use Rattle.tokens.specs.declared.Token.TheVariants.{Number, NoNumber}
+use Rattle.std.specs.Prelude.{Option}
+use Rattle.std.proofs.Common.{Some, None}
 
 -- ---- tokens
 
@@ -293,6 +293,6 @@ unfoldable pub unjudged : ℤ → ℕ
 unjudged v = 0
 
 -- What a token means: one that is no number is 3; a number is read, and its separator is next (SCOPE 4.33, 8.21).
-unfoldable pub token_answer : Token → List ℕ → Read ℤ
-token_answer (Number v) rest = got v rest
-token_answer NoNumber rest = fault 3
+unfoldable pub token_answer : Option ℤ → List ℕ → Read ℤ
+token_answer (Some v) rest = got v rest
+token_answer None rest = fault 3

@@ -2,15 +2,18 @@
 // (SCOPE 4.2); each is judged, and has its separator (SCOPE 4.33, 4.34, 4.36).
 #![tactic(auto)]
 
-ghost use Rattle.std.specs.Prelude.{◌≡◌, ◌+◌, ◌-◌, ◌*◌, ◌^◌, ◌<◌, ◌≤◌, true, ◌&&◌, length, drop, pos, neg_ℤ, if◌then◌else◌, bit_xor, int_le, nat_lt, slice_index};
+ghost use Rattle.std.specs.Prelude.{◌≡◌, ◌+◌, ◌-◌, ◌*◌, ◌^◌, ◌<◌, ◌≤◌, ℕ, ℤ, true, ◌&&◌, length, drop, pos, neg_ℤ, if◌then◌else◌, bit_xor, int_le, nat_lt, slice_index};
 ghost use Rattle.std.proofs.Math.Seq.{slice};
-ghost use Rattle.rules.specs.Numbers.{is_separator_of, is_digit_of, starts_right_of, then_read, field, between, judge_small_of};
+ghost use Rattle.refusals.specs.Refusals.{refusal_in};
+ghost use Rattle.rules.specs.Numbers.{is_separator_of, is_digit_of, starts_right_of, read_separator, field, between, judge_small_of};
 ghost use Rattle.rules.specs.Sheets.{always};
 ghost use Rattle.tokens.specs.Tokens.{DigitsStart, DigitsTo, Stopped, token_answer};
 ghost use Rattle.tokens.specs.Straight.{two_digits_of, four_digits_of, eight_digits_of, two_bytes_of, four_bytes_of};
-ghost use Rattle.tokens.specs.Straight.{digits_end, digits_from_of, digit_at_of, digits_at_of, long_at_of, Judged};
+ghost use Rattle.tokens.specs.Straight.{digits_end, digits_from_of, digit_at_of, digits_at_of, long_at_of};
 ghost use Rattle.tokens.specs.Words.{four_word_of, eight_word_of, rest_stops, front_count_of, word_value_of, Begins};
-ghost use Rattle.tokens.specs.Fields.{NumberAt, Answers, Unread, read_number_of, read_of, closing};
+ghost use Rattle.tokens.specs.Fields.{NumberAt, FoundIn, Judges, Follows, read_number_of};
+
+use refusals::Refusal;
 
 fn is_separator(b: u8) -> bool
     ensures { result ≡ is_separator_of b }
@@ -55,16 +58,15 @@ fn digits_from(bytes: &[u8], from: usize) -> Digits
     ensures { DigitsTo bytes.now from result.end result.value × Stopped bytes.now from result.end }
 {
     let mut value: u64 = 0;
-    let mut end = from;
-    while end < bytes.len() && end - from < 10 {
+    let last = bytes.len().min(from + 10);
+    for end in from..last {
         let b = bytes[end];
         if !is_digit(b) {
-            break;
+            return Digits { end, value };
         }
         value = 10 * value + (b - 48) as u64;
-        end += 1;
     }
-    Digits { end, value }
+    Digits { end: last, value }
 }
 
 // No superfluous zero stands in front, and zero has no minus: a 0 stands alone and without a sign (SCOPE 4.2).
@@ -90,49 +92,23 @@ fn signed_value(negative: bool, size: u64) -> i64
     if negative { -value } else { value }
 }
 
-// What a token is, over bytes that go on after its digits.
-#[derive(Drop)]
-pub enum Token {
-    Number(i64),
-    NoNumber,
-}
-
-// The token at `at`, whose digits begin at `from`; `right` says whether they start right.
-fn read_token(bytes: &[u8], at: usize, from: usize, d: Digits, right: bool) -> Token
+// The number that the token at `at` is, if it is one, over bytes that go on after its digits. They begin at `from`; `right` says whether they start right.
+fn read_token(bytes: &[u8], at: usize, from: usize, d: Digits, right: bool) -> Option<i64>
     requires digits_start { DigitsStart bytes.now at from × DigitsTo bytes.now from d.end d.value × Stopped bytes.now from d.end }
     requires end_in_bounds { (d.end < length bytes.now) × (right ≡ starts_right_of (nat_lt at from) (slice from d.end bytes.now)) }
     ensures { token_answer result (drop d.end bytes.now) ≡ read_number_of (drop at bytes.now) }
 {
     let end = d.end;
     if !is_separator(bytes[end]) {
-        return Token::NoNumber;
+        return None;
     }
     if from == end {
-        return Token::NoNumber;
+        return None;
     }
     if !right {
-        return Token::NoNumber;
+        return None;
     }
-    Token::Number(signed_value(at < from, d.value))
-}
-
-// A number that was read and the place after it, or a refusal.
-#[derive(Drop)]
-#[derive(Clone, Copy)]
-pub struct NumberRead {
-    pub refusal: u8,
-    pub value: i64,
-    pub at: usize,
-}
-
-pub fn no_number(refusal: u8) -> NumberRead
-    ensures { (result.refusal ≡ refusal) × (result.value ≡ pos 0) × (result.at ≡ 0) }
-{
-    NumberRead {
-        refusal,
-        value: 0,
-        at: 0,
-    }
+    Some(signed_value(at < from, d.value))
 }
 
 fn two_digits(bytes: &[u8], at: usize) -> bool
@@ -204,37 +180,30 @@ fn with_digit(bytes: &[u8], from: usize, d: Digits) -> Digits
 }
 
 // A number that was read, and the place after it.
-#[derive(Drop)]
-#[derive(Clone, Copy)]
+#[derive(Clone, Copy, Debug, PartialEq, Eq)]
 pub struct Found {
     pub value: i64,
     pub at: usize,
 }
 
-// What a straight way, one without a loop, finds: a number, or nothing that it reads, which then is read in general.
-#[derive(Drop)]
-pub enum Straight {
-    Number(Found),
-    Other,
-}
-
 // The bytes of the longest number, with its sign and a separator.
 const LONGEST: usize = 12;
 
-// A number of eight to ten digits that does not begin with 0, where the longest has room.
-fn long_at(bytes: &[u8], at: usize) -> Straight
+// A number of eight to ten digits that does not begin with 0, where the longest has room. A straight way, one without a loop, finds
+// nothing where it does not read the number, which then is read in general.
+fn long_at(bytes: &[u8], at: usize) -> Option<Found>
     requires { at ≤ length bytes.now }
     ensures { result ≡ long_at_of bytes.now at }
 {
     if bytes.len() - at < LONGEST {
-        return Straight::Other;
+        return None;
     }
     let from = after_sign(bytes, at);
     if !eight_digits(bytes, from) {
-        return Straight::Other;
+        return None;
     }
     if bytes[from] == 48 {
-        return Straight::Other;
+        return None;
     }
     let eight = Digits {
         end: from + 8,
@@ -244,9 +213,9 @@ fn long_at(bytes: &[u8], at: usize) -> Straight
     let d = with_digit(bytes, from, nine);
     let end = d.end;
     if !is_separator(bytes[end]) {
-        return Straight::Other;
+        return None;
     }
-    Straight::Number(Found {
+    Some(Found {
         value: signed_value(at < from, d.value),
         at: end,
     })
@@ -254,9 +223,9 @@ fn long_at(bytes: &[u8], at: usize) -> Straight
 
 // The number at `at`, read in general. Bytes that end before the separator are 4 where they could begin a number, 3
 // where not (SCOPE 4.32); a token that is no number is 3 (SCOPE 4.33, 8.3).
-fn token_at(bytes: &[u8], at: usize) -> NumberRead
+fn token_at(bytes: &[u8], at: usize) -> Result<Found, Refusal>
     requires { at ≤ length bytes.now }
-    ensures { NumberAt bytes.now at result.refusal result.value result.at }
+    ensures { NumberAt bytes.now at result }
 {
     let from = digits_start(bytes, at);
     let d = digits_from(bytes, from);
@@ -264,61 +233,53 @@ fn token_at(bytes: &[u8], at: usize) -> NumberRead
     let right = starts_right(bytes, at < from, from, end);
     if end == bytes.len() {
         if right {
-            return no_number(4);
+            return Err(Refusal::WrongEnd);
         }
-        return no_number(3);
+        return Err(Refusal::Malformed);
     }
-    let Token::Number(value) = read_token(bytes, at, from, d, right) else {
-        return no_number(3);
+    let Some(value) = read_token(bytes, at, from, d, right) else {
+        return Err(Refusal::Malformed);
     };
-    NumberRead {
-        refusal: 0,
-        value,
-        at: end,
-    }
+    Ok(Found { value, at: end })
 }
 
 // The number at `at`, not yet judged; the place after it is that of its separator.
-pub fn number_at(bytes: &[u8], at: usize) -> NumberRead
+pub fn number_at(bytes: &[u8], at: usize) -> Result<Found, Refusal>
     requires { at ≤ length bytes.now }
-    ensures { NumberAt bytes.now at result.refusal result.value result.at }
+    ensures { NumberAt bytes.now at result }
 {
-    let Straight::Number(n) = long_at(bytes, at) else {
-        return token_at(bytes, at);
-    };
-    NumberRead {
-        refusal: 0,
-        value: n.value,
-        at: n.at,
+    match long_at(bytes, at) {
+        Some(n) => Ok(n),
+        None => token_at(bytes, at),
     }
 }
 
 // A number of one digit and the separator behind it: most numbers of a sheet are such. A 0 has no sign.
-pub fn digit_at(bytes: &[u8], at: usize, separator: u8) -> Straight
+pub fn digit_at(bytes: &[u8], at: usize, separator: u8) -> Option<Found>
     requires { at ≤ length bytes.now }
     ensures { result ≡ digit_at_of bytes.now at separator }
 {
     if bytes.len() - at < 3 {
-        return Straight::Other;
+        return None;
     }
     let from = after_sign(bytes, at);
     let end = from + 1;
     let after = bytes[end];
     if after != separator {
-        return Straight::Other;
+        return None;
     }
     if !is_separator(after) {
-        return Straight::Other;
+        return None;
     }
     let b = bytes[from];
     if !is_digit(b) {
-        return Straight::Other;
+        return None;
     }
     let size = wide(b - 48);
     if (size as usize) < from - at {
-        return Straight::Other;
+        return None;
     }
-    Straight::Number(Found {
+    Some(Found {
         value: signed_value(at < from, size),
         at: end + 1,
     })
@@ -397,23 +358,23 @@ fn front_digits(bytes: &[u8], at: usize, from: usize, x: u64, s: u64, n: usize) 
 }
 
 // A number of at most ten bytes that does not begin with 0, and the separator behind it, where the longest has room.
-pub fn digits_at(bytes: &[u8], at: usize, separator: u8) -> Straight
+pub fn digits_at(bytes: &[u8], at: usize, separator: u8) -> Option<Found>
     requires { at ≤ length bytes.now }
     ensures { result ≡ digits_at_of bytes.now at separator }
 {
     if bytes.len() - at < LONGEST {
-        return Straight::Other;
+        return None;
     }
     if !is_separator(separator) {
-        return Straight::Other;
+        return None;
     }
     let from = after_sign(bytes, at);
     let first = bytes[from];
     if first == 48 {
-        return Straight::Other;
+        return None;
     }
     if !is_digit(first) {
-        return Straight::Other;
+        return None;
     }
     let x = eight_word(bytes, at) ^ 0x3030303030303030;
     let s = stops(x);
@@ -421,49 +382,62 @@ pub fn digits_at(bytes: &[u8], at: usize, separator: u8) -> Straight
     let d = front_digits(bytes, at, from, x, s, n);
     let end = d.end;
     if bytes[end] != separator {
-        return Straight::Other;
+        return None;
     }
-    Straight::Number(Found {
+    Some(Found {
         value: signed_value(at < from, d.value),
         at: end + 1,
     })
 }
 
-// A number that was read with its separator, judged.
-pub fn judged(n: Found, judgement: u8) -> NumberRead
-    ensures { Judged n.value n.at judgement result.refusal result.value result.at }
+// A number that was read, with its separator, a wrong one of which is 3 (SCOPE 4.36).
+pub fn separated(bytes: &[u8], n: Found, separator: u8) -> Result<Found, Refusal>
+    requires { n.at < length bytes.now }
+    ensures { FoundIn bytes.now result (read_separator separator n.value (drop n.at bytes.now)) }
 {
-    if judgement != 0 {
-        return no_number(judgement);
-    }
-    NumberRead {
-        refusal: 0,
-        value: n.value,
-        at: n.at,
-    }
-}
-
-// A number that was judged, with its separator, a wrong one of which is 3 (SCOPE 4.36).
-pub fn separated(bytes: &[u8], n: NumberRead, judgement: u8, separator: u8) -> NumberRead
-    requires { n.refusal ≡ 0 → n.at < length bytes.now }
-    ensures answers { Answers bytes.now result.refusal result.value result.at (then_read (read_of bytes.now n.refusal n.value n.at) (closing judgement separator)) }
-    ensures unread { Unread result.refusal result.value result.at }
-{
-    if n.refusal != 0 {
-        return no_number(n.refusal);
-    }
-    if judgement != 0 {
-        return no_number(judgement);
-    }
     let at = n.at;
     if bytes[at] != separator {
-        return no_number(3);
+        return Err(Refusal::Malformed);
     }
-    NumberRead {
-        refusal: 0,
+    Ok(Found {
         value: n.value,
         at: at + 1,
-    }
+    })
+}
+
+// A number, then its judgement, and then the separator that its value asks for.
+pub fn any_field_at<J: Fn(i64) -> Result<(), Refusal>, S: Fn(i64) -> u8>(
+    bytes: &[u8],
+    at: usize,
+    judge: J,
+    separator: S,
+) -> Result<Found, Refusal>
+    requires at_in_bounds { at ≤ length bytes.now }
+    requires callable { J.IsAlwaysCallable judge × S.IsAlwaysCallable separator }
+    ensures { (j follow : ℤ → ℕ) → Judges (J.post judge) j → Follows (S.post separator) follow
+        → FoundIn bytes.now result (field j follow (drop at bytes.now)) }
+{
+    let n = number_at(bytes, at)?;
+    judge(n.value)?;
+    separated(bytes, n, separator(n.value))
+}
+
+// The same with one separator: most numbers are of one digit, which are read straight.
+pub fn field_at<J: Fn(i64) -> Result<(), Refusal>>(
+    bytes: &[u8],
+    at: usize,
+    separator: u8,
+    judge: J,
+) -> Result<Found, Refusal>
+    requires at_in_bounds { at ≤ length bytes.now }
+    requires callable { J.IsAlwaysCallable judge }
+    ensures { (j : ℤ → ℕ) → Judges (J.post judge) j → FoundIn bytes.now result (field j (always separator) (drop at bytes.now)) }
+{
+    let Some(d) = digit_at(bytes, at, separator) else {
+        return any_field_at(bytes, at, judge, |_| separator);
+    };
+    judge(d.value)?;
+    Ok(d)
 }
 
 pub fn is_between(low: i64, high: i64, value: i64) -> bool
@@ -473,40 +447,49 @@ pub fn is_between(low: i64, high: i64, value: i64) -> bool
 }
 
 // A size, block, column or count out of its range is 2 (SCOPE 4.34, 6.2).
-pub fn judge_between(low: i64, high: i64, value: i64) -> u8
-    ensures { result ≡ between low high value }
+pub fn judge_between(low: i64, high: i64, value: i64) -> Result<(), Refusal>
+    ensures { refusal_in result ≡ between low high value }
 {
-    if is_between(low, high, value) { 0 } else { 2 }
+    if is_between(low, high, value) {
+        Ok(())
+    } else {
+        Err(Refusal::OutOfRange)
+    }
 }
 
 // A coefficient or n0 past ±C is 5 (SCOPE 4.34, 6.5).
-pub fn judge_small(value: i64) -> u8
-    ensures { result ≡ judge_small_of value }
+pub fn judge_small(value: i64) -> Result<(), Refusal>
+    ensures { refusal_in result ≡ judge_small_of value }
 {
-    if integers::within_bound(value) { 0 } else { 5 }
+    if integers::within_bound(value) {
+        Ok(())
+    } else {
+        Err(Refusal::PastBound)
+    }
 }
 
-pub fn number_between(bytes: &[u8], at: usize, low: i64, high: i64, separator: u8) -> NumberRead
+pub fn number_between(
+    bytes: &[u8],
+    at: usize,
+    low: i64,
+    high: i64,
+    separator: u8,
+) -> Result<Found, Refusal>
     requires { at ≤ length bytes.now }
-    ensures answers { Answers bytes.now result.refusal result.value result.at (field (between low high) (always separator) (drop at bytes.now)) }
-    ensures unread { Unread result.refusal result.value result.at }
+    ensures { FoundIn bytes.now result (field (between low high) (always separator) (drop at bytes.now)) }
 {
-    let Straight::Number(d) = digit_at(bytes, at, separator) else {
-        let n = number_at(bytes, at);
-        return separated(bytes, n, judge_between(low, high, n.value), separator);
-    };
-    judged(d, judge_between(low, high, d.value))
+    field_at(
+        bytes,
+        at,
+        separator,
+        |value| judge_between(low, high, value),
+    )
 }
 
 // A coefficient that is not the last, or n0.
-pub fn small_at(bytes: &[u8], at: usize) -> NumberRead
+pub fn small_at(bytes: &[u8], at: usize) -> Result<Found, Refusal>
     requires { at ≤ length bytes.now }
-    ensures answers { Answers bytes.now result.refusal result.value result.at (field judge_small_of (always 32) (drop at bytes.now)) }
-    ensures unread { Unread result.refusal result.value result.at }
+    ensures { FoundIn bytes.now result (field judge_small_of (always 32) (drop at bytes.now)) }
 {
-    let Straight::Number(d) = digit_at(bytes, at, 32) else {
-        let n = number_at(bytes, at);
-        return separated(bytes, n, judge_small(n.value), 32);
-    };
-    judged(d, judge_small(d.value))
+    field_at(bytes, at, 32, judge_small)
 }

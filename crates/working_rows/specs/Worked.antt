@@ -1,10 +1,10 @@
--- A new row, or the limit that it breaks, as the code gives it: a refusal number and a working row.
+-- A new row, or the limit that it breaks, as the code gives it: a working row, or the refusal.
 --
 -- Main definitions
 --   refusal_of x    0, or the number of the limit
 --   numbers_of x    the numbers of the new row, or zeros
 --   worked_row x    the working row of the new row, or zeros
---   Shown n w x    the code's refusal number n and working row w are those of x
+--   Shown result x the code's refusal or working row is that of x
 --   Held r         the numbers of r hold it, and they are within ±C
 --
 -- Main statements
@@ -14,12 +14,14 @@
 --   limit-zero     a row that is let through is the row itself
 --   held           a row of a store's shape that is within the limit is held by its numbers
 --   store-row      that shape, by the polynomials of the row
-use Rattle.std.specs.Prelude.{◌≡◌, refl, Bool, true, false, ℕ, T, ℤ, pos, length, replicate}
+use Rattle.std.specs.Prelude.{◌≡◌, refl, Bool, true, false, ℕ, T, ℤ, pos, length, replicate, Result, IfOk}
 use Rattle.std.proofs.Common.{sym, ◌∙◌, ap₂, subst, arith, take_at}
 use Rattle.std.proofs.Math.Path.{ap}
 use Rattle.std.proofs.Math.Bool.{cond}
 use mathlib.Core.List.{List, [], ◌∷◌, ◌++◌, flatten}
 use Rattle.std.proofs.lemmas.List.{replicate-append-replicate}
+use Rattle.refusals.specs.declared.Refusal.{Refusal}
+use Rattle.refusals.specs.Refusals.{refusal_in}
 use Rattle.rules.specs.Limits.{entries_length, row_length, small, coefficient_count, column_count, block_count}
 use Rattle.rules.specs.Rows.{Block, Row, coefficients_of, small_row, width}
 use Rattle.lists.specs.Everywhere.{All}
@@ -64,9 +66,9 @@ worked-held w full wide =
     side : (row_of (numbers_held w)).right ≡ w.right
     side = right-held w.entries w.right full.entries-long full.right-long
 
--- The code's refusal number and row are those of x.
-abbrev pub Shown : ℕ → WorkingRow → Limited → Type 0
-Shown refusal row x = (refusal ≡ refusal_of x) × (row ≡ worked_row x)
+-- The code's refusal or row is that of x.
+abbrev pub Shown : Result WorkingRow Refusal → Limited → Type 0
+Shown result x = (refusal_in result ≡ refusal_of x) × IfOk result (λ row. row ≡ worked_row x)
 
 -- ---- the limit of the coefficients
 

@@ -14,14 +14,12 @@ pub fn width_within(entries: &[i64], most: usize) -> usize
     requires { (length entries.now ≡ entries_length) × (most ≤ block_count) × (Rows.width (row_of entries.now) ≤ most) }
     ensures { result ≡ Rows.width (row_of entries.now) }
 {
-    let mut blocks = most;
-    while 0 < blocks {
-        let from = (blocks - 1) * BLOCK;
-        let to = blocks * BLOCK;
+    for block in (0..most).rev() {
+        let from = block * BLOCK;
+        let to = from + BLOCK;
         if !polynomials::content::zero_throughout(&entries[from..to]) {
-            return blocks;
+            return block + 1;
         }
-        blocks -= 1;
     }
     0
 }
@@ -34,8 +32,8 @@ pub fn width(entries: &[i64]) -> usize
     width_within(entries, BLOCKS)
 }
 
-// The lowest column with a nonzero leading entry (SCOPE 2.51) comes out of the loop by break (SCOPE 8.8); COLUMNS if the
-// leading block is zero.
+// The lowest column with a nonzero leading entry (SCOPE 2.51) comes out of the loop by break; COLUMNS if the leading block is zero.
+// Kept as a loop with a value: it is the example of one that ends by break (SCOPE 8.8), which no for can.
 pub fn first_column(entries: &[i64]) -> usize
     requires { length entries.now ≡ entries_length }
     ensures { result ≡ found_or column_count (Rows.first_nonzero (Rows.leading_block (row_of entries.now))) }
@@ -58,14 +56,12 @@ pub fn first_met(entries: &[i64], order: [usize; COLUMNS], settled: usize) -> us
     requires { (length entries.now ≡ entries_length) × (settled ≤ column_count) × Columns order }
     ensures { result ≡ found_or settled (Rows.first_nonzero (map (Rows.entry (row_of entries.now)) (take settled order))) }
 {
-    let mut j = 0;
-    while j < settled {
-        let from = order[j] * COEFFICIENTS;
+    for (j, c) in order[..settled].iter().enumerate() {
+        let from = *c * COEFFICIENTS;
         let to = from + COEFFICIENTS;
         if !polynomials::content::is_zero(&entries[from..to]) {
             return j;
         }
-        j += 1;
     }
     settled
 }

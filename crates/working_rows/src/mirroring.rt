@@ -15,10 +15,8 @@ fn alternate_signs(numbers: &mut [i64])
     requires { T (every small numbers.old) }
     ensures { numbers.new ≡ Polynomials.mirror numbers.old }
 {
-    let mut i = 1;
-    while i < numbers.len() {
+    for i in (1..numbers.len()).step_by(2) {
         numbers[i] = integers::negated(numbers[i]);
-        i += 2;
     }
 }
 
@@ -27,12 +25,8 @@ fn exchange(entries: &mut [i64], a: usize, b: usize)
     requires { (a + block_length ≤ b) × (b + block_length ≤ length entries.old) }
     ensures { Exchanged a b block_length entries.old entries.new }
 {
-    let mut k = 0;
-    while k < BLOCK {
-        let kept = entries[a + k];
-        entries[a + k] = entries[b + k];
-        entries[b + k] = kept;
-        k += 1;
+    for k in 0..BLOCK {
+        entries.swap(a + k, b + k);
     }
 }
 
@@ -41,10 +35,8 @@ fn turn(entries: &mut [i64], span: usize)
     requires { (span ≤ most_span) × (length entries.old ≡ entries_length) }
     ensures { Turned span entries.old entries.new }
 {
-    let mut b = 0;
-    while 2 * b < span {
+    for b in 0..(span + 1) / 2 {
         exchange(entries, b * BLOCK, (span - b) * BLOCK);
-        b += 1;
     }
 }
 

@@ -9,13 +9,13 @@ ghost use Rattle.lists.specs.Tests.{every};
 ghost use Rattle.rules.specs.Stores.{row_of};
 ghost use Rattle.rules.specs.Elimination.{limit_coefficients};
 ghost use Rattle.polynomials.specs.Shift.{follows_rule};
-ghost use Rattle.working_rows.specs.Worked.{refusal_of, worked_row};
+ghost use Rattle.working_rows.specs.Worked.{Shown};
 ghost use Rattle.working_rows.specs.Shifting.{over_front};
 ghost use Rattle.working_rows.specs.Working.{left_part, numbers_held, Full};
 
 use crate::WorkingRow;
-use crate::limits::Worked;
 use polynomials::lengths::COEFFICIENTS;
+use refusals::Refusal;
 use stores::lengths::{BLOCK, COLUMNS};
 
 // The coefficients of p(n + 1), over zeros, by a table of Pascal's numbers and the coefficients of p up to the highest that is not 0: past it
@@ -27,10 +27,8 @@ fn put_shifted(place: &mut [i64], table: &[[i64; COEFFICIENTS]; COEFFICIENTS], p
 {
     let count = polynomials::content::degree(p) + 1;
     let front = &p[..count];
-    let mut k = 0;
-    while k < count {
+    for k in 0..count {
         place[k] = polynomials::shift::shifted_coefficient(table, front, k);
-        k += 1;
     }
 }
 
@@ -75,28 +73,25 @@ fn move_blocks(
 {
     let count = blocks * COLUMNS;
     let mut within = true;
-    let mut e = 0;
-    while e < count {
+    for e in 0..count {
         let at = e * COEFFICIENTS;
         let below = at + BLOCK;
         if !put_moved(entries, at, table, below) {
             within = false;
         }
-        e += 1;
     }
     within
 }
 
-// A row shifted up by one block with n + 1 for n (SCOPE 2.61, 2.63), or 8 where a coefficient is past ±C. Blocks move up
+// A row shifted up by one block with n + 1 for n (SCOPE 2.61, 2.63), or the refusal where a coefficient is past ±C. Blocks move up
 // as far as the width goes. The last block in use becomes zero, so that the width is one less; past it there are zeros.
-pub fn shifted(row: WorkingRow) -> Worked
+pub fn shifted(row: WorkingRow) -> Result<WorkingRow, Refusal>
     requires { Full row × T (every small (numbers_held row)) × (row.width ≡ Rows.width (row_of row.entries)) }
-    ensures refusal_value { result.refusal ≡ refusal_of (limit_coefficients (shift_up (row_of (numbers_held row)))) }
-    ensures row_value { result.row ≡ worked_row (limit_coefficients (shift_up (row_of (numbers_held row)))) }
+    ensures { Shown result (limit_coefficients (shift_up (row_of (numbers_held row)))) }
 {
     let table = polynomials::shift::pascal();
     let width = row.width;
-    let last = if 0 < width { width - 1 } else { 0 };
+    let last = width.saturating_sub(1);
     let mut entries = row.entries;
     let mut right = row.right;
     let left_within = move_blocks(&mut entries, &table, last);

@@ -30,10 +30,10 @@ pub fn load(store: &[i64], at: usize, width: usize) -> WorkingRow
 {
     let middle = at + ENTRIES;
     let end = at + ROW;
-    let mut entries = [0i64; ENTRIES];
-    stores::rows::save(&mut entries, 0, &store[at..middle]);
-    let mut right = [0i64; COEFFICIENTS];
-    stores::rows::save(&mut right, 0, &store[middle..end]);
+    let mut entries = [0; ENTRIES];
+    entries.copy_from_slice(&store[at..middle]);
+    let mut right = [0; COEFFICIENTS];
+    right.copy_from_slice(&store[middle..end]);
     WorkingRow {
         entries,
         right,

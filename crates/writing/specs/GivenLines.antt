@@ -1,17 +1,17 @@
 -- The lines of relations of which the first ones are there already, as a text.
 --
 -- Main statements
---   text-next, text-last   a text that is copied byte by byte, as far as the store goes
+--   text-last, text-stored   a text that is copied, as far as the store goes
 --   lines-given       the lines of the first relations and those of the others are the lines of all
 --   lines-length-given   how many bytes they take
 --   parts-behind      what holds of each part of a store holds of those behind the first ones
-use Rattle.std.specs.Prelude.{◌≡◌, List, ◌++◌, map, ℕ, suc, ◌+◌, ◌-◌, ◌*◌, ◌≤◌, ◌<◌, min, ℤ, length, take, drop, get_or, set}
-use Rattle.std.proofs.Common.{sym, ◌∙◌, ap, subst, ⊎_elim, add-mul, add-sub_of_le, eq-or-lt_of_le, le_of_eq, arith, length-append, drop_of_length-le, drop-drop}
+use Rattle.std.specs.Prelude.{◌≡◌, List, ◌++◌, map, ℕ, ◌+◌, ◌-◌, ◌*◌, ◌≤◌, ◌<◌, min, ℤ, length, take, drop}
+use Rattle.std.proofs.Common.{sym, ◌∙◌, ap, subst, ⊎_elim, add-mul, add-sub_of_le, eq-or-lt_of_le, le_of_eq, arith, length-append, drop_of_length-le, drop-drop, take-append-drop, length-take-le, take_all}
 use Rattle.std.proofs.lemmas.List.{map-append}
-use Rattle.std.proofs.lemmas.List.Edits.{sets}
+use Rattle.std.proofs.Math.Seq.{paste, length-sets}
+use Rattle.std.proofs.lemmas.List.Edits.{sets, sets-eq}
 use Rattle.lists.specs.Parts.{parts, parts-append}
-use Rattle.lists.specs.Pasted.{sets-out}
-use Rattle.lists.specs.Taken.{drop-next}
+use Rattle.lists.specs.Pasted.{sets-out, sets-append}
 use Rattle.rules.specs.Limits.{relation_length}
 use Rattle.rules.specs.Numbers.{lines}
 use Rattle.rules.specs.Sheets.{relation_line}
@@ -21,13 +21,6 @@ use Rattle.writing.specs.Writer.{lines-append}
 
 -- ---- a text
 
--- One byte more.
-pub text-next : (d text : List ℕ) (at i : ℕ) → i < length text
-    → sets (set d (at + i) (get_or text i 0)) (at + (i + 1)) (drop (i + 1) text) ≡ sets d (at + i) (drop i text)
-text-next d text at i h =
-    let next : at + (i + 1) ≡ suc (at + i) = omega arith in
-    ap (λ n. sets (set d (at + i) (get_or text i 0)) n (drop (i + 1) text)) next ∙ ap (sets d (at + i)) (sym (drop-next text i 0 h))
-
 -- Nothing is left of the text, or of the store.
 pub text-last : (d text : List ℕ) (at i : ℕ) → i ≡ min (length text) (length d - at) → sets d (at + i) (drop i text) ≡ d
 text-last d text at i e =
@@ -36,6 +29,21 @@ text-last d text at i e =
   where
     within : i ≤ length text
     within = omega arith
+
+-- As much of it as goes in is stored.
+pub text-stored : (d text : List ℕ) (at n : ℕ) → n ≡ min (length text) (length d - at) → at ≤ length d
+    → paste d at (take n text) n ≡ sets d at text
+text-stored d text at n e within =
+    ap (λ p. take at d ++ p ++ drop (at + n) d) (take_all n part (omega (arith, size))) ∙ ap (λ m. take at d ++ part ++ drop (at + m) d) (sym size) ∙ sym (sets-eq part d at (omega (arith, size)))
+    ∙ sym (text-last (sets d at part) text at n (rw length-sets e))
+    ∙ ap (λ m. sets (sets d at part) (at + m) (drop n text)) (sym size) ∙ sets-append d at part (drop n text)
+    ∙ ap (sets d at) (take-append-drop n text)
+  where
+    part : List ℕ
+    part = take n text
+
+    size : length part ≡ n
+    size = length-take-le n text (omega arith)
 
 -- ---- relations
 

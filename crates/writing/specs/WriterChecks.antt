@@ -12,15 +12,15 @@
 --   sheet-given       the sheet that is written is the definition's
 --   call-refused, call-checked, written-short, written-whole   the cases of a call
 --   put_whole, put-short, put-counted   the same, by what was put into the store
-use Rattle.std.specs.Prelude.{◌≡◌, refl, Bool, true, ◌&&◌, ◌↔◌, ◌≢◌, List, [], ◌∷◌, ◌++◌, ℕ, zero, suc, ◌*◌, ◌≤◌, ◌<◌, T, ℤ, pos, nat_abs, length, take, drop, get_or}
+use Rattle.std.specs.Prelude.{◌≡◌, refl, Result, Bool, true, ◌&&◌, ◌||◌, eqb, ◌↔◌, ◌≢◌, List, [], ◌∷◌, ◌++◌, ℕ, zero, suc, ◌*◌, ◌≤◌, ◌<◌, T, ℤ, pos, nat_abs, length, take, drop, get_or}
 use Rattle.std.proofs.Math.Path.{sym, ap}
-use Rattle.std.proofs.Common.{◌∙◌, ap₂, zero-add, arith, le-leb, length-take, length-drop, drop-cons}
+use Rattle.std.proofs.Common.{◌∙◌, Ok, Err, ap₂, zero-add, arith, le-leb, length-take, length-drop, drop-cons}
 use Rattle.std.proofs.Math.Bool.{false, cond}
 use Rattle.std.proofs.lemmas.Bool.{lt-leb}
 use Rattle.std.specs.Int.Signed.{≤ℤ_refl}
 use Rattle.std.proofs.lemmas.List.Edits.{sets, sets-eq}
 use Rattle.algebra.specs.Order.{≤ℤ-trans, nat_abs-≤-iff}
-use Rattle.lists.specs.Tests.{T-&&, cond-zero-iff, every}
+use Rattle.lists.specs.Tests.{T-&&, cond-zero-iff, every, same_test}
 use Rattle.rules.specs.Limits.{row_length, relation_length, small, most_equations, most_relations, block_bound, block_count}
 use Rattle.rules.specs.Rows.{small_row}
 use Rattle.rules.specs.Stores.{Sizes, span, row_of, rows_of, relation_of, relations_of, relation_need, row_need, equations}
@@ -29,14 +29,24 @@ use Rattle.rules.specs.Layout.{StoresRight, NumbersRight, SizeBounds, check_stor
 use Rattle.rules.specs.Layout.{count_right-iff, lengths_right-iff, coefficients_of-row_of-all, block-place}
 use Rattle.lists.specs.Overwritten.{overwrite}
 use Rattle.lists.specs.Pasted.{sets-out}
-use Rattle.rules.specs.Sheets.{write_sheet_of}
+use Rattle.rules.specs.Sheets.{contains, write_sheet_of}
+use Rattle.std.specs.List.{list_any}
+use Rattle.std.proofs.Math.Facts.{eqb_yes, yes_eqb}
 use Rattle.lists.specs.Parts.{held-every}
 use Rattle.number_texts.specs.Runs.{Put}
 use Rattle.writing.specs.Writer.{SmallParts, Unused, UnusedParts, unused, sheet_given}
-use Rattle.writing.specs.declared.writer.WriteResult as declared
+use Rattle.refusals.specs.declared.Refusal.{Refusal}
+use Rattle.refusals.specs.Refusals.{number_of, number-nonzero}
 use Rattle.rules.specs.SheetCalls.{WriteCall, order_right_of, order_given, check_write_of, sheet_of, unwritten, written, after_write_check, write_call}
 
 -- ---- the checks
+
+-- Whether a column is there, as a search tells it.
+pub any-contains : (c : ℕ) (l : List ℕ) → list_any (λ d. eqb d c) l ≡ contains c l
+unfolding contains
+any-contains c [] = refl
+any-contains c (d ∷ l) =
+    ap₂ ◌||◌ (same_test (eqb d c) (eqb c d) (λ h. yes_eqb (sym (eqb_yes h))) (λ h. yes_eqb (sym (eqb_yes h)))) (any-contains c l)
 
 order-first : (s t : Bool) (n : ℕ) → cond (s && t) n 2 ≡ cond t (cond s n 2) 2
 order-first true true n = refl
@@ -159,9 +169,10 @@ module _ (z : Sizes) (count : ℕ) (order : List ℕ) (row_store relation_store 
 
 -- ---- the call
 
--- What a call did as a whole: the fields that it returned, and the byte store afterwards.
-abbrev pub call_of : declared.WriteResult → List ℕ → WriteCall
-call_of r bytes = record { refusal = r.refusal; length = r.length; byte_store = bytes }
+-- What a call did as a whole: the length that it returned, or its refusal, and the byte store afterwards.
+abbrev pub call_of : Result ℕ Refusal → List ℕ → WriteCall
+call_of (Ok n) bytes = record { refusal = 0; length = n; byte_store = bytes }
+call_of (Err r) bytes = record { refusal = number_of r; length = 0; byte_store = bytes }
 
 -- The columns that are given come first in the order argument.
 pub given-first : (order : List ℕ) → take (length (order_given order)) order ≡ order_given order
@@ -183,13 +194,17 @@ unfolding sheet_of sheet_given
 sheet-given z count order row_store relation_store n e =
     ap (λ columns. write_sheet_of (sheet_given z count columns row_store relation_store)) (ap (λ k. take k order) e ∙ given-first order)
 
-pub call-refused : (z : Sizes) (count : ℕ) (order : List ℕ) (row_store relation_store : List ℤ) (byte_store : List ℕ) (n : ℕ)
-    → n ≡ check_write_of z count order row_store relation_store → n ≢ 0
-    → unwritten n byte_store ≡ write_call z count order row_store relation_store byte_store
-unfolding write_call
-call-refused z count order row_store relation_store byte_store zero e ne = absurd (ne refl)
-call-refused z count order row_store relation_store byte_store (suc n) e ne =
-    ap (after_write_check z count order row_store relation_store byte_store) e
+pub call-refused : (z : Sizes) (count : ℕ) (order : List ℕ) (row_store relation_store : List ℤ) (byte_store : List ℕ) (r : Refusal)
+    → number_of r ≡ check_write_of z count order row_store relation_store
+    → call_of (Err r) byte_store ≡ write_call z count order row_store relation_store byte_store
+unfolding write_call after_write_check unwritten
+call-refused z count order row_store relation_store byte_store r e =
+    refused (number_of r) (number-nonzero r) ∙ ap (after_write_check z count order row_store relation_store byte_store) e
+  where
+    refused : (n : ℕ) → n ≢ 0
+        → ◌≡◌ {A = WriteCall} (record { refusal = n; length = 0; byte_store = byte_store }) (after_write_check z count order row_store relation_store byte_store n)
+    refused zero some = absurd (some refl)
+    refused (suc n) some = refl
 
 pub call-checked : (z : Sizes) (count : ℕ) (order : List ℕ) (row_store relation_store : List ℤ) (byte_store : List ℕ)
     → check_write_of z count order row_store relation_store ≡ 0

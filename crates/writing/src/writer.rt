@@ -3,24 +3,28 @@
 // known to fit.
 use number_texts::{COUNT_BYTES, NUMBER_BYTES};
 use polynomials::lengths::COEFFICIENTS;
+use refusals::Refusal;
+use shape::Shape;
 use stores::lengths::{BLOCK, COLUMNS, ENTRIES, POLYNOMIALS, RELATION, ROW};
 
 pub mod checks;
+mod shape;
 
 ghost use Rattle.std.specs.Prelude.{◌≡◌, [], ◌∷◌, map, ◌+◌, ◌*◌, ◌-◌, ◌%◌, ◌^◌, ◌≤◌, ◌<◌, min, ℤ, pos, nat_abs, T, length, take, drop};
 ghost use Rattle.rules.specs.Numbers.{line, lines};
-ghost use Rattle.rules.specs.Limits.{column_count, row_length, relation_length, most_relations, small, coefficient_count, most_equations, polynomial_count, most_span, block_count, block_length, block_bound};
+ghost use Rattle.rules.specs.Limits.{column_count, row_length, relation_length, most_relations, small, coefficient_count, most_equations, polynomial_count, most_span, block_length, block_bound};
 ghost use Rattle.lists.specs.Tests.{every};
 ghost use Rattle.algebra.specs.Polynomials.{is_zero_of};
-ghost use Rattle.rules.specs.Sheets.{trim, block_terms_of, terms_from, equation_numbers, relation_line, order_line};
+ghost use Rattle.rules.specs.Sheets.{trim, block_terms_of, terms_from, relation_line, order_line};
 ghost use Rattle.rules.specs.Sheets.{side_line, side_lines, write_sheet_of};
-ghost use Rattle.rules.specs.Stores.{row_of, rows_of, relation_of, relations_of, equations};
+ghost use Rattle.rules.specs.Stores.{row_of, relations_of, equations};
 ghost use Rattle.number_texts.specs.Runs.{Put};
 ghost use Rattle.number_texts.specs.Texts.{spaced};
 ghost use Rattle.number_texts.specs.TextBytes.{count_bytes};
-ghost use Rattle.writing.specs.SheetBytes.{term_bytes, block_bytes, terms_bytes, equation_bytes, relation_bytes};
+ghost use Rattle.writing.specs.SheetBytes.{term_bytes, block_bytes, terms_bytes, relation_bytes};
 ghost use Rattle.writing.specs.SheetBytes.{sizes_bytes, order_bytes, sheet_bytes, term_room, block_room, terms_room};
-ghost use Rattle.writing.specs.SheetBytes.{equation_room, relation_room, sizes_room, side_bytes, sides_bytes, side_room};
+ghost use Rattle.writing.specs.SheetBytes.{relation_room, sizes_room, side_bytes, sides_bytes, side_room};
+ghost use Rattle.writing.specs.Records.{start_bytes, start_room, record_start, record_line, record_lines};
 ghost use Rattle.writing.specs.Writer.{SmallParts, Lengths, term_at_of, numbers_of, nonzero_count};
 ghost use Rattle.writing.specs.Writer.{Unused, UnusedParts, NoTerms, sheet_given, sides_in, sides_given};
 ghost use Rattle.writing.specs.LineLengths.{most_in_term_of, most_in_terms_of, most_in_records_of, lines_length};
@@ -49,19 +53,15 @@ const LONG_TERM: usize = 3 + COEFFICIENTS;
 
 const LONG_TERMS: usize = POLYNOMIALS * LONG_TERM;
 
-// The number of coefficients up to the last nonzero one of the first `count`. All of these are looked at: a way out of the loop would
-// cost more than it spares.
-fn trimmed_to(p: &[i64], count: usize) -> usize
-    requires { count ≤ length p.now }
-    ensures { result ≡ length (trim (take count p.now)) }
+// The number of numbers up to the last nonzero one. All of them are looked at: a way out of the loop would cost more than it spares.
+fn trimmed_of(numbers: &[i64]) -> usize
+    ensures { result ≡ length (trim numbers.now) }
 {
     let mut n = 0;
-    let mut i = 0;
-    while i < count {
-        if p[i] != 0 {
+    for (i, a) in numbers.iter().enumerate() {
+        if *a != 0 {
             n = i + 1;
         }
-        i += 1;
     }
     n
 }
@@ -72,9 +72,9 @@ fn trimmed(p: &[i64]) -> usize
     ensures { result ≡ length (trim p.now) }
 {
     if polynomials::content::all_zero(&p[FEW..]) {
-        return trimmed_to(p, FEW);
+        return trimmed_of(&p[..FEW]);
     }
-    trimmed_to(p, COEFFICIENTS)
+    trimmed_of(&p[..COEFFICIENTS])
 }
 
 // One term; nothing for a zero polynomial (SCOPE 4.22, 4.52).
@@ -101,34 +101,24 @@ fn put_block(bytes: &mut [u8], at: usize, numbers: &[i64], lengths: &[usize], bl
         bytes.new result }
 {
     let mut next = at;
-    let mut c = 0;
-    while c < COLUMNS {
+    for c in 0..COLUMNS {
         let from = c * COEFFICIENTS;
         let to = from + COEFFICIENTS;
         next = put_term(bytes, next, &numbers[from..to], lengths[c], block, c + 1);
-        c += 1;
     }
     next
 }
 
 // The terms of a row, from block l downward, in each block by rising column (SCOPE 4.23). Past the blocks in use there are none.
-fn put_terms(
-    bytes: &mut [u8],
-    at: usize,
-    row: &[i64],
-    lengths: &[usize],
-    l: i64,
-    blocks: usize,
-) -> usize
+fn put_terms(bytes: &mut [u8], at: usize, row: &[i64], lengths: &[usize], shape: Shape) -> usize
     requires { (length row.now ≡ row_length) × (length lengths.now ≡ polynomial_count)
-        × Lengths (blocks * column_count) row.now lengths.now × (nat_abs l ≤ block_bound) × (at + terms_room < 2 ^ 64)
-        × T (every small row.now) × (blocks ≤ block_count) × NoTerms blocks row.now }
-    ensures { Put bytes.old at (spaced (numbers_of (terms_from l (row_of row.now).blocks))) terms_bytes
+        × Lengths (shape.blocks * column_count) row.now lengths.now × (at + terms_room < 2 ^ 64)
+        × T (every small row.now) × NoTerms shape.blocks row.now }
+    ensures { Put bytes.old at (spaced (numbers_of (terms_from shape.l (row_of row.now).blocks))) terms_bytes
         bytes.new result }
 {
     let mut next = at;
-    let mut b = 0;
-    while b < blocks {
+    for b in 0..shape.blocks {
         let from = b * BLOCK;
         let to = from + BLOCK;
         let first = b * COLUMNS;
@@ -138,9 +128,8 @@ fn put_terms(
             next,
             &row[from..to],
             &lengths[first..last],
-            l - b as i64,
+            shape.l - b as i64,
         );
-        b += 1;
     }
     next
 }
@@ -161,122 +150,71 @@ fn term_length(row: &[i64], i: usize, m: usize) -> usize
 
 // The number of terms of a row, of its polynomials that are not zero (SCOPE 4.52), and the number of coefficients of
 // each. Those past the blocks in use are zero (SCOPE 3.34), and not looked at.
-fn term_lengths(lengths: &mut [usize], row: &[i64], m: usize, blocks: usize) -> usize
-    requires { (length lengths.old ≡ polynomial_count) × (length row.now ≡ row_length) × (blocks ≤ block_count)
-        × Unused m blocks row.now }
+fn term_lengths(lengths: &mut [usize], row: &[i64], shape: Shape) -> usize
+    requires { (length lengths.old ≡ polynomial_count) × (length row.now ≡ row_length) × Unused shape.m shape.blocks row.now }
     ensures { (result ≡ nonzero_count (polynomials_in row.now))
-        × Lengths (blocks * column_count) row.now lengths.new }
+        × Lengths (shape.blocks * column_count) row.now lengths.new }
 {
-    let used = blocks * COLUMNS;
+    let used = shape.blocks * COLUMNS;
     let mut terms = 0;
-    let mut i = 0;
-    while i < used {
-        let n = term_length(row, i, m);
+    for i in 0..used {
+        let n = term_length(row, i, shape.m);
         lengths[i] = n;
         if n != 0 {
             terms += 1;
         }
-        i += 1;
     }
     terms
 }
 
-fn put_equation(bytes: &mut [u8], at: usize, row: &[i64], l: i64, m: usize, blocks: usize) -> usize
-    requires { (length row.now ≡ row_length) × (nat_abs l ≤ block_bound) × (at + equation_room < 2 ^ 64) × T (every small row.now)
-        × (blocks ≤ block_count) × Unused m blocks row.now }
-    ensures { Put bytes.old at (line (equation_numbers l (row_of row.now))) equation_bytes bytes.new result }
+// How the line of a record begins: with the number of its row's terms, behind n0 where the record has it before its row (SCOPE 4.14).
+fn put_start(bytes: &mut [u8], at: usize, part: &[i64], skip: usize, terms: usize) -> usize
+    requires { (skip ≤ length part.now) × T (every small part.now) × (at + start_room < 2 ^ 64) }
+    ensures { Put bytes.old at (record_start skip part.now terms) start_bytes bytes.new result }
 {
+    if skip == 0 {
+        return number_texts::put_digits(bytes, at, terms as u64);
+    }
+    let indexed = number_texts::put_number(bytes, at, part[0]);
+    number_texts::put_next_count(bytes, indexed, terms)
+}
+
+// The line of a record, whose row stands behind its first `skip` numbers: none of an equation, n0 of a relation.
+fn put_record(bytes: &mut [u8], at: usize, part: &[i64], skip: usize, shape: Shape) -> usize
+    requires { (skip ≤ 1) × (length part.now ≡ skip + row_length) × (at + relation_room < 2 ^ 64)
+        × T (every small part.now) × Unused shape.m shape.blocks (drop skip part.now) }
+    ensures { Put bytes.old at (line (record_line shape.l skip part.now)) relation_bytes bytes.new result }
+{
+    let row = &part[skip..];
     let mut lengths = [0usize; POLYNOMIALS];
-    let terms = term_lengths(&mut lengths, row, m, blocks);
-    let counted = number_texts::put_digits(bytes, at, terms as u64);
-    let written = put_terms(bytes, counted, row, &lengths, l, blocks);
+    let terms = term_lengths(&mut lengths, row, shape);
+    let started = put_start(bytes, at, part, skip, terms);
+    let written = put_terms(bytes, started, row, &lengths, shape);
     number_texts::put_byte(bytes, written, 10)
 }
 
-// A line with n0 and an equation (SCOPE 4.14).
-fn put_relation(
+// The lines of the first records of a store.
+fn put_records(
     bytes: &mut [u8],
     at: usize,
-    numbers: &[i64],
-    l: i64,
-    m: usize,
-    blocks: usize,
+    store: &[i64],
+    skip: usize,
+    records: usize,
+    shape: Shape,
 ) -> usize
-    requires { (length numbers.now ≡ relation_length) × (nat_abs l ≤ block_bound) × (at + relation_room < 2 ^ 64) × T (every small numbers.now)
-        × (blocks ≤ block_count) × Unused m blocks (drop 1 numbers.now) }
-    ensures { Put bytes.old at (line (relation_line l (relation_of numbers.now))) relation_bytes
-        bytes.new result }
+    requires { (skip ≤ 1) × (records ≤ most_relations) × (records * (skip + row_length) ≤ length store.now)
+        × (at + most_relations * relation_room < 2 ^ 64) × SmallParts (skip + row_length) records store.now
+        × UnusedParts shape.m shape.blocks skip (skip + row_length) records store.now }
+    ensures { Put bytes.old at (record_lines shape.l skip records store.now) (records * relation_bytes) bytes.new result }
 {
-    let row = &numbers[1..];
-    let mut lengths = [0usize; POLYNOMIALS];
-    let terms = term_lengths(&mut lengths, row, m, blocks);
-    let indexed = number_texts::put_number(bytes, at, numbers[0]);
-    let counted = number_texts::put_next_count(bytes, indexed, terms);
-    let written = put_terms(bytes, counted, row, &lengths, l, blocks);
-    number_texts::put_byte(bytes, written, 10)
-}
-
-fn put_equations(
-    bytes: &mut [u8],
-    at: usize,
-    rows: &[i64],
-    equations: usize,
-    l: i64,
-    m: usize,
-    blocks: usize,
-) -> usize
-    requires { (equations ≤ most_equations) × (equations * row_length ≤ length rows.now) × (nat_abs l ≤ block_bound)
-        × (at + most_equations * equation_room < 2 ^ 64) × SmallParts row_length equations rows.now
-        × (blocks ≤ block_count) × UnusedParts m blocks 0 row_length equations rows.now }
-    ensures { Put bytes.old at (lines (map (equation_numbers l) (rows_of equations rows.now))) (equations * equation_bytes)
-        bytes.new result }
-{
+    let width = skip + ROW;
     let mut next = at;
-    let mut i = 0;
-    while i < equations {
-        let from = i * ROW;
-        let to = from + ROW;
-        next = put_equation(bytes, next, &rows[from..to], l, m, blocks);
-        i += 1;
+    for i in 0..records {
+        let from = i * width;
+        let to = from + width;
+        next = put_record(bytes, next, &store[from..to], skip, shape);
     }
     next
-}
-
-fn put_relations(
-    bytes: &mut [u8],
-    at: usize,
-    relations: &[i64],
-    count: usize,
-    l: i64,
-    m: usize,
-    blocks: usize,
-) -> usize
-    requires { (count ≤ most_relations) × (count * relation_length ≤ length relations.now) × (nat_abs l ≤ block_bound)
-        × (at + most_relations * relation_room < 2 ^ 64) × SmallParts relation_length count relations.now
-        × (blocks ≤ block_count) × UnusedParts m blocks 1 relation_length count relations.now }
-    ensures { Put bytes.old at (lines (map (relation_line l) (relations_of count relations.now))) (count * relation_bytes)
-        bytes.new result }
-{
-    let mut next = at;
-    let mut i = 0;
-    while i < count {
-        let from = i * RELATION;
-        let to = from + RELATION;
-        next = put_relation(bytes, next, &relations[from..to], l, m, blocks);
-        i += 1;
-    }
-    next
-}
-
-// How many of n bytes a store takes from a place on.
-fn stored_bytes(at: usize, n: usize, store: usize) -> usize
-    ensures { result ≡ min n (store - at) }
-{
-    if store <= at {
-        return 0;
-    }
-    let room = store - at;
-    if n < room { n } else { room }
 }
 
 // Bytes that are there already.
@@ -284,13 +222,12 @@ fn put_text(bytes: &mut [u8], at: usize, text: &[u8]) -> usize
     requires { at + length text.now < 2 ^ 64 }
     ensures { Put bytes.old at text.now (length text.now) bytes.new result }
 {
-    let stored = stored_bytes(at, text.len(), bytes.len());
-    let mut i = 0;
-    while i < stored {
-        bytes[at + i] = text[i];
-        i += 1;
+    let next = at + text.len();
+    let end = next.min(bytes.len());
+    if at < end {
+        bytes[at..end].copy_from_slice(&text[..end - at]);
     }
-    at + text.len()
+    next
 }
 
 // The lines of all relations: a text that has those of the first ones, and the others written. A relation has one line alone, so a caller
@@ -300,29 +237,26 @@ fn put_given(
     at: usize,
     relations: &[i64],
     count: usize,
-    l: i64,
-    m: usize,
-    blocks: usize,
+    shape: Shape,
     given: &[u8],
     first: usize,
 ) -> usize
-    requires count_le_most_relations { (count ≤ most_relations) × (count * relation_length ≤ length relations.now) × (nat_abs l ≤ block_bound)
+    requires count_le_most_relations { (count ≤ most_relations) × (count * relation_length ≤ length relations.now)
         × (at + (length given.now + most_relations * relation_room) < 2 ^ 64) × SmallParts relation_length count relations.now
-        × (blocks ≤ block_count) × UnusedParts m blocks 1 relation_length count relations.now }
-    requires first_le_count { (first ≤ count) × (given.now ≡ lines (map (relation_line l) (relations_of first relations.now))) }
-    ensures { Put bytes.old at (lines (map (relation_line l) (relations_of count relations.now)))
+        × UnusedParts shape.m shape.blocks 1 relation_length count relations.now }
+    requires first_le_count { (first ≤ count) × (given.now ≡ lines (map (relation_line shape.l) (relations_of first relations.now))) }
+    ensures { Put bytes.old at (lines (map (relation_line shape.l) (relations_of count relations.now)))
         (length given.now + (count - first) * relation_bytes) bytes.new result }
 {
     let start = first * RELATION;
     let after_given = put_text(bytes, at, given);
-    put_relations(
+    put_records(
         bytes,
         after_given,
         &relations[start..],
+        1,
         count - first,
-        l,
-        m,
-        blocks,
+        shape,
     )
 }
 
@@ -362,14 +296,12 @@ fn sides_zero(store: &[i64], skip: usize, records: usize) -> bool
     requires { (skip ≤ row_length) × (records ≤ most_relations) × (records * (skip + coefficient_count) ≤ length store.now) }
     ensures { result ≡ every is_zero_of (sides_in skip records store.now) }
 {
-    let mut i = 0;
-    while i < records {
+    for i in 0..records {
         let from = i * (skip + COEFFICIENTS) + skip;
         let to = from + COEFFICIENTS;
         if !polynomials::content::is_zero(&store[from..to]) {
             return false;
         }
-        i += 1;
     }
     true
 }
@@ -383,7 +315,7 @@ fn no_sides(rows: &[i64], equations: usize, relations: &[i64], count: usize) -> 
     sides_zero(rows, ENTRIES, equations) && sides_zero(relations, 1 + ENTRIES, count)
 }
 
-// A line for each of those right sides, zero or not.
+// A line for each of those right sides, zero or not. Kept beside `put_records`: a closure for the line would be lent the store each time.
 fn put_sides(bytes: &mut [u8], at: usize, store: &[i64], skip: usize, records: usize) -> usize
     requires { (skip ≤ row_length) × (records ≤ most_relations) × (records * (skip + coefficient_count) ≤ length store.now)
         × (at + most_relations * side_room < 2 ^ 64) × SmallParts (skip + coefficient_count) records store.now }
@@ -391,12 +323,10 @@ fn put_sides(bytes: &mut [u8], at: usize, store: &[i64], skip: usize, records: u
         bytes.new result }
 {
     let mut next = at;
-    let mut i = 0;
-    while i < records {
+    for i in 0..records {
         let from = i * (skip + COEFFICIENTS) + skip;
         let to = from + COEFFICIENTS;
         next = put_side(bytes, next, &store[from..to]);
-        i += 1;
     }
     next
 }
@@ -446,33 +376,19 @@ fn put_given_sheet(
         bytes.new result }
 {
     let equations = sizes.equations;
-    let l = sizes.l;
-    let m = sizes.m;
     let blocks = stores::validity::span(sizes) + 1;
-    let after_sizes = put_sizes(bytes, 0, m, l, sizes.t);
-    let after_number = number_texts::put_count(bytes, after_sizes, equations);
-    let after_rows = put_equations(bytes, after_number, rows, equations, l, m, blocks);
-    let after_count = number_texts::put_count(bytes, after_rows, count);
-    let after_relations = put_given(
-        bytes,
-        after_count,
-        relations,
-        count,
-        l,
-        m,
+    let shape = Shape {
+        l: sizes.l,
+        m: sizes.m,
         blocks,
-        given,
-        first,
-    );
+    };
+    let after_sizes = put_sizes(bytes, 0, sizes.m, sizes.l, sizes.t);
+    let after_number = number_texts::put_count(bytes, after_sizes, equations);
+    let after_rows = put_records(bytes, after_number, rows, 0, equations, shape);
+    let after_count = number_texts::put_count(bytes, after_rows, count);
+    let after_relations = put_given(bytes, after_count, relations, count, shape, given, first);
     let after_order = put_order(bytes, after_relations, columns);
     put_fifth(bytes, after_order, rows, equations, relations, count)
-}
-
-// The refusal and the length of the sheet, 0 on a refusal (SCOPE 4.51, 6.31).
-#[derive(Drop)]
-pub struct WriteResult {
-    pub refusal: u8,
-    pub length: usize,
 }
 
 // The numbers of a term with this polynomial, at most.
@@ -492,12 +408,10 @@ fn most_in_terms(row: &[i64]) -> usize
     ensures { result ≡ most_in_terms_of row.now }
 {
     let mut numbers = 0;
-    let mut i = 0;
-    while i < POLYNOMIALS {
+    for i in 0..POLYNOMIALS {
         let from = i * COEFFICIENTS;
         let to = from + COEFFICIENTS;
         numbers += most_in_term(&row[from..to]);
-        i += 1;
     }
     numbers
 }
@@ -508,12 +422,10 @@ fn most_in_records(store: &[i64], skip: usize, records: usize) -> usize
     ensures { result ≡ most_in_records_of skip records store.now }
 {
     let mut numbers = 0;
-    let mut i = 0;
-    while i < records {
+    for i in 0..records {
         let from = i * (skip + ROW) + skip;
         let to = from + ROW;
         numbers += most_in_terms(&store[from..to]);
-        i += 1;
     }
     numbers
 }
@@ -574,7 +486,7 @@ fn given_fits(
 }
 
 // The sheet of a system that passes the checks, and whose first relations a text has, line by line, as a sheet that was read gave them: these
-// are copied. Refusal 1 where it is longer than the byte store (SCOPE 4.54). It is counted first where it is not plain that it fits.
+// are copied. The store is too short where the sheet is longer (SCOPE 4.54). It is counted first where it is not plain that it fits.
 // No public entry point: the caller knows that the checks pass.
 pub fn write_given(
     rows: &[i64],
@@ -585,7 +497,7 @@ pub fn write_given(
     given: &[u8],
     first: usize,
     bytes: &mut [u8],
-) -> WriteResult
+) -> Result<usize, Refusal>
     requires relations_value { check_write_of (the_sizes_of sizes) count order rows.now relations.now ≡ 0 }
     requires first_le_count { (first ≤ count) × (given.now ≡ lines (map (relation_line (the_sizes_of sizes).l) (relations_of first relations.now))) }
     ensures { call_of result bytes.new
@@ -597,7 +509,7 @@ pub fn write_given(
     let columns = &all[..n];
     if given_fits(rows, equations, relations, count, given, first, bytes.len()) {
         let length = put_given_sheet(bytes, rows, relations, sizes, count, columns, given, first);
-        return WriteResult { refusal: 0, length };
+        return Ok(length);
     }
     let needed = put_given_sheet(
         &mut bytes[..0],
@@ -610,13 +522,10 @@ pub fn write_given(
         first,
     );
     if bytes.len() < needed {
-        return WriteResult {
-            refusal: 1,
-            length: 0,
-        };
+        return Err(Refusal::ShortStore);
     }
     let length = put_given_sheet(bytes, rows, relations, sizes, count, columns, given, first);
-    WriteResult { refusal: 0, length }
+    Ok(length)
 }
 
 // The same with every relation written.
@@ -627,7 +536,7 @@ pub fn write_checked(
     count: usize,
     order: [usize; COLUMNS],
     bytes: &mut [u8],
-) -> WriteResult
+) -> Result<usize, Refusal>
     requires { check_write_of (the_sizes_of sizes) count order rows.now relations.now ≡ 0 }
     ensures { call_of result bytes.new
         ≡ write_call (the_sizes_of sizes) count order rows.now relations.now bytes.old }
@@ -638,7 +547,7 @@ pub fn write_checked(
 }
 
 // The system of the stores and its column order as a sheet: the order's four numbers are different columns of 1..m and zeros
-// past them, all four 0 for none (SCOPE 4.53). Nothing is written on a refusal (SCOPE 4.54), and bytes past
+// past them, all four 0 for none (SCOPE 4.53). The length of the sheet; nothing is written on a refusal (SCOPE 4.54), and bytes past
 // the length stay (SCOPE 4.51).
 pub fn write_sheet(
     rows: &[i64],
@@ -647,13 +556,10 @@ pub fn write_sheet(
     count: usize,
     order: [usize; COLUMNS],
     bytes: &mut [u8],
-) -> WriteResult
+) -> Result<usize, Refusal>
     ensures { call_of result bytes.new
         ≡ write_call (the_sizes_of sizes) count order rows.now relations.now bytes.old }
 {
-    let refusal = checks::check_write(rows, relations, sizes, count, order);
-    if refusal != 0 {
-        return WriteResult { refusal, length: 0 };
-    }
+    checks::check_write(rows, relations, sizes, count, order)?;
     write_checked(rows, relations, sizes, count, order, bytes)
 }

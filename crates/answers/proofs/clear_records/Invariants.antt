@@ -8,7 +8,4 @@ use Rattle.answers.proofs.clear_records.Given as goal
 
 abbrev pub invariant-loop-i : goal.invariant-loop-i
 invariant-loop-i l =
-    (l.i ≤ l.count) × ((length l.store ≡ length l.initial.store) × (l.store ≡ cleared_to l.initial.store l.size l.count (l.i * l.size)))
-
-abbrev pub decreases-loop-i : goal.decreases-loop-i
-decreases-loop-i l = l.count - l.i
+    ((length l.store ≡ length l.initial.store) × (l.store ≡ cleared_to l.initial.store l.size l.count (l.i * l.size)))

@@ -2,7 +2,6 @@
 -- Assumes nothing.
 use mathlib.Core.Path.{sym, ◌∙◌, ap}
 use mathlib.Core.Bool.{not}
-use native.Mathlib.Omega.{arith}
 use borrow.Author.Rules.{rules}
 use borrow.Author.Tests.{eq-eqb, ne_eqb}
 use lib.Dec.{eqb}
@@ -11,27 +10,25 @@ use lib.Seq.{take_all}
 use Rattle.lists.specs.Tests.{every, every-longer, every-false}
 use Rattle.back_substitution.proofs.is_free.Goals as goal
 
-pub loop-i-init : goal.loop-i-init
+pub loop-c-init : goal.loop-c-init
 unfolding every
-loop-i-init c = search rules
+loop-c-init c = search rules
 
-pub returns-then-columns-i : goal.returns-then-columns-i
-returns-then-columns-i c =
-    let i = c.loop-i.i in
-    sym (every-false (λ k. not (eqb k c.args.column)) c.args.columns.now i 0 c.loop-i-test.true
-    (ap not (eq-eqb (get_or c.args.columns.now i 0) c.args.column c.if-columns-i.true)))
+pub returns-then-c-column : goal.returns-then-c-column
+returns-then-c-column c =
+    let i = c.loop-c.c-index in
+    sym (every-false (λ k. not (eqb k c.args.column)) c.args.columns.now i 0 c.loop-c-test.true
+    (ap not (eq-eqb (get_or c.args.columns.now i 0) c.args.column c.if-c-column.true)))
 
-pub loop-i-preserved : goal.loop-i-preserved
-loop-i-preserved c =
-    let i = c.loop-i.i in (
-      omega arith,
-      every-longer (λ k. not (eqb k c.args.column)) c.args.columns.now i 0 c.loop-i-test.true
-          c.loop-i.invariant.1
-          (ap not (ne_eqb (get_or c.args.columns.now i 0) c.args.column c.if-columns-i.false)),
-    )
+pub loop-c-preserved : goal.loop-c-preserved
+loop-c-preserved c =
+    let i = c.loop-c.c-index in
+    every-longer (λ k. not (eqb k c.args.column)) c.args.columns.now i 0 c.loop-c-test.true
+    c.loop-c.invariant
+    (ap not (ne_eqb (get_or c.args.columns.now i 0) c.args.column c.if-c-column.false))
 
 pub returns : goal.returns
 returns c =
     let columns = c.args.columns.now in
-    sym (ap (every (λ k. not (eqb k c.args.column))) (sym (take_all c.loop-i.i columns c.loop-i-test.false))
-    ∙ c.loop-i.invariant.1)
+    sym (ap (every (λ k. not (eqb k c.args.column))) (sym (take_all c.loop-c.c-index columns c.loop-c-test.false))
+    ∙ c.loop-c.invariant)

@@ -2,14 +2,10 @@
 -- Assumes nothing.
 use mathlib.Core.Path.{◌≡◌}
 use mathlib.Core.Bool.{true, not}
-use Prim.Native.Nat.{◌-◌, ◌≤◌}
 use lib.Dec.{eqb}
-use lib.ListN.{length, take}
+use lib.ListN.{take}
 use Rattle.lists.specs.Tests.{every}
 use Rattle.back_substitution.proofs.is_free.Given as goal
 
-abbrev pub invariant-loop-i : goal.invariant-loop-i
-invariant-loop-i l = (l.i ≤ length l.columns) × (every (λ c. not (eqb c l.column)) (take l.i l.columns) ≡ true)
-
-abbrev pub decreases-loop-i : goal.decreases-loop-i
-decreases-loop-i l = length l.columns - l.i
+abbrev pub invariant-loop-c : goal.invariant-loop-c
+invariant-loop-c l = every (λ c. not (eqb c l.column)) (take l.c-index l.columns) ≡ true

@@ -5,7 +5,6 @@ use mathlib.Core.Path.{◌≡◌, refl, sym}
 use mathlib.Core.List.{List}
 use Prim.Native.Nat.{ℕ}
 use native.Mathlib.Omega.{arith}
-use lib.IntN.{ℤ}
 use lib.ListN.{length, take}
 use lib.Seq.{length-take-le}
 use Rattle.sides.specs.Lent.{Kept}
@@ -13,9 +12,12 @@ use Rattle.sides.specs.StoreStates.{kept_then}
 use Rattle.echelon.specs.Eliminated.{Pivot}
 use Rattle.echelon.specs.MatrixTurns.{pivots_in}
 use Rattle.constant_rows.specs.ListLengths.{list_need}
-use Rattle.back_substitution.specs.ListRows.{Stepped, written_none, listing-stopped, listing-goes-on, listing-reported}
+use Rattle.std.proofs.Common.{Ok, ◌+◌, ap, subst}
+use Rattle.refusals.specs.Refusals.{refusal_in}
+use Rattle.constant_rows.specs.ConstantStores.{told-refused}
+use Rattle.back_substitution.specs.ListRows.{Written, count_in, written_none, listing-passed, listing-goes-on, listing-told}
 use Rattle.back_substitution.proofs.list_sequences.Goals as goal
-use Rattle.back_substitution.proofs.list_sequences.Goals.{After-struct_known-1, At-loop-f, Start}
+use Rattle.back_substitution.proofs.list_sequences.Goals.{After-list_column, At-loop-f, Start}
 
 -- the columns of the settled rows
 module _ (c : Start) where
@@ -29,27 +31,15 @@ module _ (c : Start) where
   enough = length-take-le c.args.settled c.args.columns (omega (arith, c.requires.n_le_list_columns.0, c.requires.n_le_list_columns.1, c.requires.n_le_list_columns.3))
 
 -- one column more
-module _ (c : After-struct_known-1) where
+module _ (c : After-list_column) where
   abbrev start : Start
-  start = (goal.at.After-struct_known-1 c).Start
+  start = (goal.at.After-list_column c).Start
 
   abbrev loop : At-loop-f
-  loop = (goal.at.After-struct_known-1 c).At-loop-f
+  loop = (goal.at.After-list_column c).At-loop-f
 
-  abbrev refusal : ℕ
-  refusal = c.list_column-step.result.refusal
-
-  abbrev count : ℕ
-  count = c.list_column-step.result.count
-
-  abbrev list : List ℤ
-  list = c.list_column-step.new.list
-
-  stepped : Stepped start.args.n (ps start) loop.loop-f.f refusal count list
-  stepped = c.list_column-step.ensures.stepped
-
-  kept : Kept list_need start.args.list.now list
-  kept = kept_then loop.loop-f.invariant.2 c.list_column-step.ensures.kept
+  kept : Kept list_need start.args.list.now c.list_column.new.list
+  kept = kept_then loop.loop-f.invariant.2 c.list_column.ensures.kept
 
 pub slice_bounds-used-end : goal.slice_bounds-used-end
 slice_bounds-used-end c = sym (enough (goal.at.slice_bounds-used-end c).Start)
@@ -59,9 +49,9 @@ loop-f-init c =
     let s = (goal.at.loop-f-init c).Start in
     (omega arith, written_none s.args.n (ps s) s.args.list.now s.requires.list_need_in_bounds.1, record { same_length = refl; same_rest = refl })
 
-pub list_column-step-requires : goal.list_column-step-requires
-list_column-step-requires c =
-    let s = (goal.at.list_column-step-requires c).Start in
+pub list_column-requires : goal.list_column-requires
+list_column-requires c =
+    let s = (goal.at.list_column-requires c).Start in
     let inv = c.loop-f.invariant in record {
       n_le_list_columns = (
         s.requires.n_le_list_columns.0,
@@ -73,27 +63,25 @@ list_column-step-requires c =
       written = inv.1;
     }
 
-pub shape_of-list-then-step-ne0 : goal.shape_of-list-then-step-ne0
-shape_of-list-then-step-ne0 c = (kept (goal.at.shape_of-list-then-step-ne0 c).After-struct_known-1).same_length
-
-pub returns-then-step-ne0 : goal.returns-then-step-ne0
-returns-then-step-ne0 c =
-    let e = (goal.at.returns-then-step-ne0 c).After-struct_known-1 in
-    let at = loop e in
+pub returns-in_err-count : goal.returns-in_err-count
+returns-in_err-count c =
+    let e = (goal.at.returns-in_err-count c).After-list_column in
+    let s = start e in
+    let r = c.in_err-count.field-0.0 in
     record {
-      reports = listing-stopped _ (start e).args.n (ps (start e)) at.loop-f.f (refusal e) (count e) (list e) c.if-step-ne0.true (stepped e);
+      reports = told-refused _ _ _ r c.from_residual.ensures.1
+          (listing-passed s.args.n (ps s) (loop e).loop-f.f _ r e.list_column.new.list c.in_err-count.was e.list_column.ensures.stepped);
       kept = kept e;
     }
 
-pub overflow_add-f : goal.overflow_add-f
-overflow_add-f c = omega (arith, (start (goal.at.overflow_add-f c).After-struct_known-1).requires.n_le_list_columns.0)
-
 pub loop-f-preserved : goal.loop-f-preserved
 loop-f-preserved c =
-    let e = (goal.at.loop-f-preserved c).After-struct_known-1 in
-    let at = loop e in (
+    let e = (goal.at.loop-f-preserved c).After-list_column in
+    let s = start e in
+    let told : e.list_column.result ≡ Ok c.in_ok-count.count = c.in_ok-count.was in (
       omega arith,
-      listing-goes-on (start e).args.n (ps (start e)) at.loop-f.f (refusal e) (count e) (list e) c.if-step-ne0.false (stepped e),
+      subst (λ k. Written s.args.n (ps s) ((loop e).loop-f.f + 1) k e.list_column.new.list) (ap count_in told)
+          (listing-goes-on s.args.n (ps s) (loop e).loop-f.f _ _ e.list_column.new.list (ap refusal_in told) e.list_column.ensures.stepped),
       kept e,
     )
 
@@ -104,6 +92,6 @@ pub returns : goal.returns
 returns c =
     let s = (goal.at.returns c).Start in
     let at = c.loop-f in record {
-      reports = listing-reported s.args.n (ps s) at.f at.count s.args.list.now at.list at.invariant.1 (omega arith) at.invariant.2;
+      reports = listing-told s.args.n (ps s) at.f at.count s.args.list.now at.list at.invariant.1 (omega arith) at.invariant.2;
       kept = at.invariant.2;
     }

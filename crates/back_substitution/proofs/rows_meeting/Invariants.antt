@@ -5,6 +5,3 @@ use Rattle.back_substitution.proofs.rows_meeting.Given as goal
 
 abbrev pub invariant-loop-i : goal.invariant-loop-i
 invariant-loop-i l = MetBelow l.matrix l.f l.count l.i
-
-abbrev pub decreases-loop-i : goal.decreases-loop-i
-decreases-loop-i l = l.i

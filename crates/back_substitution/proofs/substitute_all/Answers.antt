@@ -90,14 +90,14 @@ module _ (c : After-substituted) where
       ∙ ap₂ (λ r w. Listed.substitute (pivot_at r (get_or (columns at) (i at) 0)) w) (lent at) (v-is at)
       ∙ sym (back-next (n at) (ps at) (f at) (i at) (pivot_at (row at) (get_or (columns at) (i at) 0)) (pivot at))
 
-pub rows_meeting-i-requires : goal.rows_meeting-i-requires
-rows_meeting-i-requires c = (c.requires.n_le_list_columns.3, omega (arith, c.requires.n_le_list_columns.0, c.requires.n_le_list_columns.1))
+pub rows_meeting-met-requires : goal.rows_meeting-met-requires
+rows_meeting-met-requires c = (c.requires.n_le_list_columns.3, omega (arith, c.requires.n_le_list_columns.0, c.requires.n_le_list_columns.1))
 
 pub loop-i-init : goal.loop-i-init
 loop-i-init c =
     let unmet =
-    back-unmet c.args.n c.args.f c.args.columns.now c.args.matrix.now _ c.requires.n_le_list_columns.0 c.requires.n_le_list_columns.1 c.requires.free_column c.rows_meeting-i.ensures in
-    (c.rows_meeting-i.ensures.few, refl, c.requires.n_le_list_columns.2 ∙ sym unmet, rw c.requires.n_le_list_columns.2 (unit-small c.args.n c.args.f))
+    back-unmet c.args.n c.args.f c.args.columns.now c.args.matrix.now _ c.requires.n_le_list_columns.0 c.requires.n_le_list_columns.1 c.requires.free_column c.rows_meeting-met.ensures in
+    (c.rows_meeting-met.ensures.few, refl, c.requires.n_le_list_columns.2 ∙ sym unmet, rw c.requires.n_le_list_columns.2 (unit-small c.args.n c.args.f))
 
 pub overflow_mul-from : goal.overflow_mul-from
 overflow_mul-from c = omega (arith, long c)

@@ -14,6 +14,3 @@ use Rattle.back_substitution.proofs.substitute_all.Given as goal
 abbrev pub invariant-loop-i : goal.invariant-loop-i
 invariant-loop-i l =
     (l.i ≤ length l.columns) × (length l.v ≡ length l.initial.v) × (l.v ≡ back l.n (pivots_in l.n l.columns l.matrix) l.f l.i) × T (every small l.v)
-
-abbrev pub decreases-loop-i : goal.decreases-loop-i
-decreases-loop-i l = l.i

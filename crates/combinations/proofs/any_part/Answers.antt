@@ -50,7 +50,7 @@ pub returns-then-put_low : goal.returns-then-put_low
 returns-then-put_low c =
     let s = (goal.at.returns-then-put_low c).After-shortened-2 in
     beyond-made (g s) (h s) (p s) (q s) (fits s) (r s) (t s) (first s) (second s) (sym c.put_low.ensures.value ∙ c.if-put_low.true)
-    (start s).args.d (start s).args.within
+    (start s).args.before
 
 pub returns : goal.returns
 returns c =

@@ -19,20 +19,18 @@ use Rattle.combinations.proofs.both_within.Goals.{At-loop-i}
 module _ (c : At-loop-i) where
   now-within : both_within_of c.args.n c.args.g.now c.args.h.now
       ≡ (eqb c.loop-i.joined-bits 0 && both_within_of c.loop-i.i c.args.g.now c.args.h.now)
-  now-within = rw (of_z-to_z c.loop-i.auto.joined-fits) at c.loop-i.invariant.1
+  now-within = rw (of_z-to_z c.loop-i.auto.joined-fits) at c.loop-i.invariant
 
 pub loop-i-preserved : goal.loop-i-preserved
 loop-i-preserved c =
     let at = (goal.at.loop-i-preserved c).At-loop-i in
     let inside = c.loop-i-test.true in
     let g-fits : SFits w64 (get_or c.args.g.now c.loop-i.i (pos 0)) = sfits_of c.joined-1.given in
-    let h-fits : SFits w64 (get_or c.args.h.now c.loop-i.i (pos 0)) = sfits_of c.joined-in-loop-i-1.given in (
-      omega arith,
-      rw (of_z-to_z (Fits-or (Fits-or c.loop-i.auto.joined-fits (Fits-of_z g-fits)) (Fits-of_z h-fits)))
-          (now-within at
-          ∙ within-next c.loop-i.i c.loop-i.joined-bits c.args.g.now c.args.h.now (omega (arith, c.requires, inside))
-          (omega (arith, c.requires, inside)) g-fits h-fits),
-    )
+    let h-fits : SFits w64 (get_or c.args.h.now c.loop-i.i (pos 0)) = sfits_of c.joined-in-loop-i-1.given in
+    rw (of_z-to_z (Fits-or (Fits-or c.loop-i.auto.joined-fits (Fits-of_z g-fits)) (Fits-of_z h-fits)))
+    (now-within at
+    ∙ within-next c.loop-i.i c.loop-i.joined-bits c.args.g.now c.args.h.now (omega (arith, c.requires, inside))
+    (omega (arith, c.requires, inside)) g-fits h-fits)
 
 pub returns : goal.returns
 unfolding is_zero_of

@@ -3,16 +3,11 @@
 -- Assumes nothing.
 use mathlib.Core.Path.{◌≡◌}
 use mathlib.Core.Bool.{◌&&◌}
-use Prim.Native.Nat.{◌≤◌, ◌-◌}
 use lib.Dec.{eqb}
-use Rattle.rules.specs.Limits.{coefficient_count}
 use Rattle.combinations.specs.Combination.{both_within_of}
 use mir.Val.{of_z}
 use mir.Syntax.{w64}
 use Rattle.combinations.proofs.both_within.Given as goal
 
 abbrev pub invariant-loop-i : goal.invariant-loop-i
-invariant-loop-i l = (l.i ≤ coefficient_count) × (both_within_of l.n l.g l.h ≡ (eqb (of_z w64 l.joined) 0 && both_within_of l.i l.g l.h))
-
-abbrev pub decreases-loop-i : goal.decreases-loop-i
-decreases-loop-i l = coefficient_count - l.i
+invariant-loop-i l = both_within_of l.n l.g l.h ≡ (eqb (of_z w64 l.joined) 0 && both_within_of l.i l.g l.h)

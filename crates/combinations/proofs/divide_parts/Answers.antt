@@ -50,12 +50,12 @@ module _ (c : In-loop-e) where
   -- it is as it was
   part-is : take width (drop k at.loop-e.numbers) ≡ take width (drop k l)
   part-is =
-      ap (λ r. take width (drop k r)) at.loop-e.invariant.2 ∙ ap (take width) (divided-rest d l k width (omega (arith, room)))
+      ap (λ r. take width (drop k r)) at.loop-e.invariant.1 ∙ ap (take width) (divided-rest d l k width (omega (arith, room)))
 
 pub loop-e-init : goal.loop-e-init
 unfolding divide_by
 loop-e-init c =
-    (omega arith, refl, refl)
+    (refl, refl)
 
 pub divide_part-requires : goal.divide_part-requires
 divide_part-requires c =
@@ -71,19 +71,18 @@ loop-e-preserved c =
     let w = (goal.at.loop-e-preserved c).In-loop-e in
     let next : k w + width w ≡ ((at w).loop-e.e + 1) * coefficient_count = omega arith in
     let part = c.divide_part.ensures ∙ ap (divide_by (d w)) (part-is w) in (
-      omega (arith, w.loop-e-test.true),
-      same_len_mid (k w) (width w) (at w).loop-e.numbers c.divide_part.new.p c.divide_part.auto.p ∙ (at w).loop-e.invariant.1,
-      ap₂ (put_mid (k w) (width w)) (at w).loop-e.invariant.2 part ∙ divided-next (d w) (l w) (k w) (width w) (omega (arith, room w))
+      same_len_mid (k w) (width w) (at w).loop-e.numbers c.divide_part.new.p c.divide_part.auto.p ∙ (at w).loop-e.invariant.0,
+      ap₂ (put_mid (k w) (width w)) (at w).loop-e.invariant.1 part ∙ divided-next (d w) (l w) (k w) (width w) (omega (arith, room w))
           ∙ ap (divided_to (d w) (l w)) next,
     )
 
 pub shape_of-numbers : goal.shape_of-numbers
-shape_of-numbers c = c.loop-e.invariant.1
+shape_of-numbers c = c.loop-e.invariant.0
 
 pub returns : goal.returns
 returns c =
     let loop = c.loop-e in
-    let all : loop.e ≡ c.args.count = omega (arith, loop.invariant.0, c.loop-e-test.false) in
-    loop.invariant.2 ∙ divided-front (nat_abs (to_z w64 (of_z w64 c.args.d))) c.args.numbers.now (loop.e * coefficient_count)
+    let all : loop.e ≡ c.args.count = omega (arith, c.loop-e-test.false) in
+    loop.invariant.1 ∙ divided-front (nat_abs (to_z w64 (of_z w64 c.args.d))) c.args.numbers.now (loop.e * coefficient_count)
     (subst (λ n. T (is_zero_of (drop (n * coefficient_count) c.args.numbers.now))) (sym all) c.requires.count_le_polynomial_count.2)
     ∙ ap (λ z. divide_by (nat_abs z) c.args.numbers.now) (to_z-of_z {w = w64} c.ranges.d)

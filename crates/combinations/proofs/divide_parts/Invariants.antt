@@ -1,7 +1,7 @@
 -- `combinations::divide_parts` meets its contract. The loop's invariant: the first e polynomials are divided, the others are as they were.
 -- Assumes nothing.
 use mathlib.Core.Path.{◌≡◌}
-use Prim.Native.Nat.{◌*◌, ◌-◌, ◌≤◌}
+use Prim.Native.Nat.{◌*◌}
 use lib.IntN.{nat_abs}
 use lib.ListN.{length}
 use Rattle.rules.specs.Limits.{coefficient_count}
@@ -10,7 +10,4 @@ use Rattle.combinations.proofs.divide_parts.Given as goal
 
 abbrev pub invariant-loop-e : goal.invariant-loop-e
 invariant-loop-e l =
-    (l.e ≤ l.count) × (length l.numbers ≡ length l.initial.numbers) × (l.numbers ≡ divided_to (nat_abs l.d) l.initial.numbers (l.e * coefficient_count))
-
-abbrev pub decreases-loop-e : goal.decreases-loop-e
-decreases-loop-e l = l.count - l.e
+    (length l.numbers ≡ length l.initial.numbers) × (l.numbers ≡ divided_to (nat_abs l.d) l.initial.numbers (l.e * coefficient_count))

@@ -20,7 +20,7 @@ use Rattle.rules.specs.Rows.{width}
 use Rattle.rules.specs.Stores.{row_of}
 use Rattle.rules.specs.Elimination.{limit_coefficients, consistent}
 use Rattle.working_rows.specs.Found.{width-most, width-rest}
-use Rattle.working_rows.specs.Worked.{refusal_of, worked_row}
+use Rattle.working_rows.specs.Worked.{Shown}
 use Rattle.combinations.specs.Primitive.{divided-append, divides-append}
 use Rattle.combinations.specs.Undivided.{divided-width}
 use Rattle.combinations.proofs.divided.Goals as goal
@@ -81,7 +81,5 @@ returns c =
     let s = (goal.at.returns c).Start in
     let row = s.args.row in
     let same = ap row_of (ap₂ ◌++◌ (left_is s c.divide_parts.ensures) (right_is s c.divide_part.ensures)
-    ∙ sym (divided-append (nat_abs s.args.d) row.entries row.right)) in record {
-      refusal_value = c.limited.ensures.refusal_value ∙ ap (λ r. refusal_of (consistent (limit_coefficients r))) same;
-      row_value = c.limited.ensures.row_value ∙ ap (λ r. worked_row (consistent (limit_coefficients r))) same;
-    }
+    ∙ sym (divided-append (nat_abs s.args.d) row.entries row.right)) in
+    subst (λ r. Shown c.limited.result (consistent (limit_coefficients r))) same c.limited.ensures

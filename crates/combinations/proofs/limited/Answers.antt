@@ -32,10 +32,7 @@ pub returns-then-not-within : goal.returns-then-not-within
 unfolding refusal_of
 returns-then-not-within c =
     let e = limited-beyond c.args.row c.requires.0 c.requires.1 (sym c.requires.2 ∙ c.if-not-within.true) in
-    record {
-      refusal_value = c.broken.ensures.0 ∙ sym (ap refusal_of e);
-      row_value = c.broken.ensures.1 ∙ sym (ap worked_row e);
-    }
+    (sym (ap refusal_of e), tt)
 
 pub returns-then-not-is_zero : goal.returns-then-not-is_zero
 unfolding refusal_of
@@ -44,22 +41,17 @@ returns-then-not-is_zero c =
     let zero = eq-eqb s.args.row.width 0 c.if-row-eq0.true in
     let some = ap not (sym c.is_zero.ensures) ∙ c.if-not-is_zero.true-raw in
     let e = answer s c.if-not-within.false-raw true (ap₂ ◌&&◌ zero some) in
-    record {
-      refusal_value = c.broken-then-not-is_zero.ensures.0 ∙ sym (ap refusal_of e);
-      row_value = c.broken-then-not-is_zero.ensures.1 ∙ sym (ap worked_row e);
-    }
+    (sym (ap refusal_of e), tt)
 
 pub returns-else-not-is_zero : goal.returns-else-not-is_zero
 returns-else-not-is_zero c =
     let s = (goal.at.returns-else-not-is_zero c).Start in
     let none = ap not (sym c.is_zero.ensures) ∙ c.if-not-is_zero.false-raw in
     let width = s.args.row.width in
-    let f = fine s (answer s c.if-not-within.false-raw false (ap (λ t. eqb width 0 && t) none ∙ and-false (eqb width 0))) in
-    record { refusal_value = f.0; row_value = f.1 }
+    fine s (answer s c.if-not-within.false-raw false (ap (λ t. eqb width 0 && t) none ∙ and-false (eqb width 0)))
 
 pub returns-else-row-eq0 : goal.returns-else-row-eq0
 returns-else-row-eq0 c =
     let s = (goal.at.returns-else-row-eq0 c).Start in
     let row = s.args.row in
-    let f = fine s (answer s c.if-not-within.false-raw false (ap (λ t. t && not (is_zero_of row.right)) (ne_eqb row.width 0 c.if-row-eq0.false))) in
-    record { refusal_value = f.0; row_value = f.1 }
+    fine s (answer s c.if-not-within.false-raw false (ap (λ t. t && not (is_zero_of row.right)) (ne_eqb row.width 0 c.if-row-eq0.false)))

@@ -24,9 +24,6 @@ combined_coefficient-requires c =
       k_bound = omega (arith, c.loop-k.invariant.long, c.requires.place_len_bound);
     }
 
-pub loop-k-smaller : goal.loop-k-smaller
-loop-k-smaller c = omega (arith, c.loop-k.invariant.long, c.loop-k-test.true)
-
 -- the low part, as far as there are places
 module _ (start : Start) where
   abbrev sum : Polynomial
@@ -42,7 +39,7 @@ pub loop-k-preserved : goal.loop-k-preserved
 loop-k-preserved c =
     let start = (goal.at.loop-k-preserved c).Start in
     let k = c.loop-k.k in
-    let below : k < places start = omega (arith, c.loop-k.invariant.long, c.loop-k-test.true) in
+    let below : k < places start = omega (arith, c.loop-k.invariant.long) in
     overwritten-next c.loop-k.invariant (part-long (goal.at.Start start).Start) (pos 0) below
     (read_back _ c.combined_coefficient.type_inv ∙ c.combined_coefficient.ensures.value
     ∙ sym (get_or-take (places start) (low_part_of (sum start)) k (pos 0) below
@@ -54,4 +51,4 @@ shape_of-place c = c.loop-k.invariant.long
 pub returns : goal.returns
 returns c =
     let start = (goal.at.returns c).Start in
-    overwritten-all c.loop-k.invariant (part-long (goal.at.Start start).Start) (omega (arith, c.loop-k.invariant.long, c.loop-k-test.false))
+    overwritten-all c.loop-k.invariant (part-long (goal.at.Start start).Start) (omega (arith, c.loop-k.invariant.long))

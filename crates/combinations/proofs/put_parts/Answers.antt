@@ -2,6 +2,7 @@
 -- Assumes nothing.
 use mathlib.Core.Path.{◌≡◌, refl, sym, ◌∙◌, ap, subst, subst₂}
 use mathlib.Core.List.{List}
+use Rattle.std.proofs.Common.{Option}
 use native.Mathlib.Omega.{arith}
 use borrow.Rule.Slice.PartMut.{put_mid, same_len_mid}
 use lib.IntN.{ℤ}
@@ -9,9 +10,9 @@ use lib.ListN.{length, take, drop}
 use Rattle.algebra.specs.Polynomials.{Polynomial}
 use Rattle.rules.specs.Limits.{coefficient_count}
 use Rattle.rules.specs.Layout.{coefficients_at_of}
-use Rattle.combinations.specs.declared.Made.{Made}
+use Rattle.combinations.specs.declared.Known.{Known}
 use Prim.Native.Nat.{ℕ, ◌+◌, ◌*◌, ◌-◌, ◌/◌, ◌<◌}
-use Rattle.combinations.specs.Parts.{sum_of, PartFits, PartMade, PartsFit, PartsBegun, parts-start, parts_next, parts-beyond, parts-end, part-is, part-fits}
+use Rattle.combinations.specs.Parts.{sum_of, PartFits, PartMade, PartsFit, PartsMade, PartsBegun, parts-start, parts_next, parts-beyond, parts-end, part-is, part-fits}
 use Rattle.combinations.proofs.put_parts.Goals as goal
 use Rattle.combinations.proofs.put_parts.Goals.{At-loop-e, In-loop-e, Start}
 
@@ -47,8 +48,8 @@ module _ (c : In-loop-e) where
   fits : PartsFit start.args.count g h target pivot
   fits = start.requires.parts_fit
 
-  begun : PartsBegun g h target pivot start.args.d start.args.within at.loop-e.place at.loop-e.content at.loop-e.small at.loop-e.e
-  begun = at.loop-e.invariant.2
+  begun : PartsBegun g h target pivot start.args.before at.loop-e.place at.loop-e.known at.loop-e.e
+  begun = at.loop-e.invariant.1
 
   left : at.loop-e.e < length target / coefficient_count
   left = omega (arith, fits.whole, start.requires.count_le_polynomial_count.1, c.loop-e-test.true)
@@ -63,48 +64,39 @@ module _ (c : In-loop-e) where
   next_fits : PartFits g h (take width (drop k at.loop-e.place)) (take width (drop k pivot))
   next_fits = subst₂ (PartFits g h) (sym part) (sym other) (part-fits fits begun left)
 
-  made : {after : List ℤ} {r : Made}
-      → PartMade (sum_of g h (take width (drop k at.loop-e.place)) (take width (drop k pivot))) at.loop-e.content at.loop-e.small
+  made : {after : List ℤ} {r : Option Known}
+      → PartMade (sum_of g h (take width (drop k at.loop-e.place)) (take width (drop k pivot))) at.loop-e.known
       (take width (drop k at.loop-e.place)) after r
-      → PartMade (sum_of g h (coefficients_at_of target at.loop-e.e) (coefficients_at_of pivot at.loop-e.e)) at.loop-e.content at.loop-e.small
+      → PartMade (sum_of g h (coefficients_at_of target at.loop-e.e) (coefficients_at_of pivot at.loop-e.e)) at.loop-e.known
       (take width (drop k at.loop-e.place)) after r
   made {after} {r} m =
-      subst₂ (λ p q. PartMade (sum_of g h p q) at.loop-e.content at.loop-e.small (take width (drop k at.loop-e.place)) after r)
+      subst₂ (λ p q. PartMade (sum_of g h p q) at.loop-e.known (take width (drop k at.loop-e.place)) after r)
       part other m
 
 pub loop-e-init : goal.loop-e-init
 loop-e-init c =
     let a = c.args in
-    (omega arith, refl, parts-start a.g.now a.h.now a.place.now a.pivot.now a.d a.within)
+    (refl, parts-start a.g.now a.h.now a.place.now a.pivot.now a.before)
 
-pub put_part-made-requires : goal.put_part-made-requires
-put_part-made-requires c = next_fits c.before.before
+pub put_part-requires : goal.put_part-requires
+put_part-requires c = next_fits (goal.at.put_part-requires c).In-loop-e
 
-pub shape_of-place-then-made : goal.shape_of-place-then-made
-shape_of-place-then-made c =
-    let w = (goal.at.shape_of-place-then-made c).In-loop-e in
-    same_len_mid (k w) (width w) (at w).loop-e.place c.put_part-made.new.place c.put_part-made.auto.place ∙ (at w).loop-e.invariant.1
-
-pub returns-then-made : goal.returns-then-made
-returns-then-made c =
-    let w = (goal.at.returns-then-made c).In-loop-e in
-    parts-beyond (fits w) (begun w) (left w) (made w c.put_part-made.ensures) c.if-made.true
+pub returns-in_err-known : goal.returns-in_err-known
+returns-in_err-known c =
+    let w = (goal.at.returns-in_err-known c).In-loop-e in
+    subst (PartsMade _ c.args.before _) (sym c.from_residual.ensures) (parts-beyond (fits w) (begun w) (left w) (made w c.in_err-known.ensures))
 
 pub loop-e-preserved : goal.loop-e-preserved
 loop-e-preserved c =
     let w = (goal.at.loop-e-preserved c).In-loop-e in (
-      omega (arith, w.loop-e-test.true),
-      same_len_mid (k w) (width w) (at w).loop-e.place c.put_part-made.new.place c.put_part-made.auto.place ∙ (at w).loop-e.invariant.1,
-      subst (λ n. PartsBegun (g w) (h w) (target w) (pivot w) (start w).args.d (start w).args.within
-          (put_mid (k w) n (at w).loop-e.place c.put_part-made.new.place) c.put_part-made.result.content
-          c.put_part-made.result.within ((at w).loop-e.e + 1)) (sym (wide w))
-          (parts_next (fits w) (begun w) (left w) (made w c.put_part-made.ensures) c.if-made.false),
+      same_len_mid (k w) (width w) (at w).loop-e.place c.put_part.new.place c.put_part.auto.place ∙ (at w).loop-e.invariant.0,
+      subst (λ n. PartsBegun (g w) (h w) (target w) (pivot w) (start w).args.before
+          (put_mid (k w) n (at w).loop-e.place c.put_part.new.place) c.in_ok-known.known ((at w).loop-e.e + 1)) (sym (wide w))
+          (parts_next (fits w) (begun w) (left w) (made w c.in_ok-known.ensures)),
     )
 
 pub shape_of-place : goal.shape_of-place
-shape_of-place c = c.loop-e.invariant.1
+shape_of-place c = c.loop-e.invariant.0
 
 pub returns : goal.returns
-returns c =
-    let loop = c.loop-e in
-    parts-end c.requires.parts_fit loop.invariant.2 c.loop-e-test.false (omega (arith, c.requires, loop.invariant.0, c.requires.parts_fit.whole))
+returns c = parts-end c.requires.parts_fit c.loop-e.invariant.1 c.loop-e-test.false (omega (arith, c.requires, c.requires.parts_fit.whole))

@@ -2,13 +2,9 @@
 -- Assumes nothing.
 use mathlib.Core.Path.{◌≡◌}
 use lib.ListN.{length}
-use Prim.Native.Nat.{◌-◌, ◌≤◌}
 use Rattle.combinations.specs.Parts.{PartsBegun}
 use Rattle.combinations.proofs.put_parts.Given as goal
 
 abbrev pub invariant-loop-e : goal.invariant-loop-e
 invariant-loop-e l =
-    (l.e ≤ l.count) × (length l.place ≡ length l.initial.place) × PartsBegun l.g l.h l.initial.place l.pivot l.d l.within l.place l.content l.small l.e
-
-abbrev pub decreases-loop-e : goal.decreases-loop-e
-decreases-loop-e l = l.count - l.e
+    (length l.place ≡ length l.initial.place) × PartsBegun l.g l.h l.initial.place l.pivot l.fn.before l.place l.known l.e

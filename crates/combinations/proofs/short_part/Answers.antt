@@ -1,8 +1,9 @@
 -- `combinations::short_part` meets its contract.
 -- Assumes nothing.
 use mathlib.Core.Path.{◌≡◌, refl, sym, ◌∙◌}
-use mathlib.Core.Bool.{Bool, true, ◌&&◌}
+use mathlib.Core.Bool.{true, ◌&&◌}
 use mathlib.Core.List.{List}
+use Rattle.std.proofs.Common.{Some}
 use Prim.Native.Nat.{ℕ, ◌+◌, ◌≤◌}
 use native.Mathlib.Omega.{arith}
 use lib.Dec.{eqb, eqb→eq}
@@ -12,7 +13,7 @@ use lib.Seq.{length-take-le}
 use Rattle.algebra.specs.Polynomials.{Polynomial}
 use Rattle.lists.specs.Tests.{T-&&, true-T}
 use Rattle.rules.specs.Limits.{coefficient_count}
-use Rattle.combinations.specs.declared.Made.{Made}
+use Rattle.combinations.specs.declared.Known.{Known}
 use Rattle.combinations.specs.Combination.{few, Counted, low_sums}
 use Rattle.combinations.specs.Parts.{sum_of, SumsSaved, PartMade, front_fits, sums-made}
 use Rattle.combinations.proofs.short_part.Goals as goal
@@ -45,50 +46,34 @@ module _ (c : Start) where
   factors = front_fits g h p q c.requires.0 c.requires.1 refl refl
 
   made_of : (n : ℕ) → (eqb (length g) n && eqb (length h) n) ≡ true → n + few ≤ coefficient_count + 1
-      → {l after : List ℤ} {d : ℕ} {t : Bool} {r : Made} → l ≡ low_sums n g (take few p) h (take few q) → SumsSaved l d t p after r
-      → PartMade (sum_of g h p q) d t p after r
+      → {l after : List ℤ} {before r : Known} → l ≡ low_sums n g (take few p) h (take few q) → SumsSaved l before p after r
+      → PartMade (sum_of g h p q) before p after (Some r)
   made_of n e powers f saved =
       let both = lengths (length g) (length h) n e in
       sums-made g h p q c.requires.0 c.requires.1 refl refl n both.0 both.1 powers f saved
 
-pub slice_bounds-number_sums-end-then-lengths_are : goal.slice_bounds-number_sums-end-then-lengths_are
-slice_bounds-number_sums-end-then-lengths_are c = front_long (goal.at.slice_bounds-number_sums-end-then-lengths_are c).Start
-
-pub slice_bounds-number_sums-end-then-lengths_are-2 : goal.slice_bounds-number_sums-end-then-lengths_are-2
-slice_bounds-number_sums-end-then-lengths_are-2 c = pivot-long (goal.at.slice_bounds-number_sums-end-then-lengths_are-2 c).Start
-
-pub number_sums-sums-requires : goal.number_sums-sums-requires
-number_sums-sums-requires c = factors (goal.at.number_sums-sums-requires c).Start
+pub lowest_sums-sums-requires : goal.lowest_sums-sums-requires
+lowest_sums-sums-requires c = (omega arith, (omega arith, factors (goal.at.lowest_sums-sums-requires c).Start))
 
 pub returns-then-lengths_are : goal.returns-then-lengths_are
 returns-then-lengths_are c =
-    made_of (goal.at.returns-then-lengths_are c).Start 1 (sym c.lengths_are.ensures ∙ c.if-lengths_are.true) (omega arith) c.number_sums-sums.ensures
+    made_of (goal.at.returns-then-lengths_are c).Start 1 (sym c.lengths_are.ensures ∙ c.if-lengths_are.true) (omega arith) c.lowest_sums-sums.ensures
     c.put_sums.ensures
 
-pub slice_bounds-pair_sums-end-then-lengths_are-2 : goal.slice_bounds-pair_sums-end-then-lengths_are-2
-slice_bounds-pair_sums-end-then-lengths_are-2 c = front_long (goal.at.slice_bounds-pair_sums-end-then-lengths_are-2 c).Start
-
-pub slice_bounds-pair_sums-end-then-lengths_are-2-2 : goal.slice_bounds-pair_sums-end-then-lengths_are-2-2
-slice_bounds-pair_sums-end-then-lengths_are-2-2 c = pivot-long (goal.at.slice_bounds-pair_sums-end-then-lengths_are-2-2 c).Start
-
-pub pair_sums-sums-requires : goal.pair_sums-sums-requires
-pair_sums-sums-requires c = factors (goal.at.pair_sums-sums-requires c).Start
+pub lowest_sums-sums-requires-then-lengths_are-2 : goal.lowest_sums-sums-requires-then-lengths_are-2
+lowest_sums-sums-requires-then-lengths_are-2 c =
+    (omega arith, (omega arith, factors (goal.at.lowest_sums-sums-requires-then-lengths_are-2 c).Start))
 
 pub returns-then-lengths_are-2 : goal.returns-then-lengths_are-2
 returns-then-lengths_are-2 c =
-    made_of (goal.at.returns-then-lengths_are-2 c).Start 2 (sym c.lengths_are-2.ensures ∙ c.if-lengths_are-2.true) (omega arith) c.pair_sums-sums.ensures
-    c.put_sums-then-lengths_are-2.ensures
+    made_of (goal.at.returns-then-lengths_are-2 c).Start 2 (sym c.lengths_are-2.ensures ∙ c.if-lengths_are-2.true) (omega arith)
+    c.lowest_sums-sums-then-lengths_are-2.ensures c.put_sums-then-lengths_are-2.ensures
 
-pub slice_bounds-four_sums-end-then-lengths_are-3 : goal.slice_bounds-four_sums-end-then-lengths_are-3
-slice_bounds-four_sums-end-then-lengths_are-3 c = front_long (goal.at.slice_bounds-four_sums-end-then-lengths_are-3 c).Start
-
-pub slice_bounds-four_sums-end-then-lengths_are-3-2 : goal.slice_bounds-four_sums-end-then-lengths_are-3-2
-slice_bounds-four_sums-end-then-lengths_are-3-2 c = pivot-long (goal.at.slice_bounds-four_sums-end-then-lengths_are-3-2 c).Start
-
-pub four_sums-sums-requires : goal.four_sums-sums-requires
-four_sums-sums-requires c = factors (goal.at.four_sums-sums-requires c).Start
+pub lowest_sums-sums-requires-then-lengths_are-3 : goal.lowest_sums-sums-requires-then-lengths_are-3
+lowest_sums-sums-requires-then-lengths_are-3 c =
+    (omega arith, (omega arith, factors (goal.at.lowest_sums-sums-requires-then-lengths_are-3 c).Start))
 
 pub returns-then-lengths_are-3 : goal.returns-then-lengths_are-3
 returns-then-lengths_are-3 c =
-    made_of (goal.at.returns-then-lengths_are-3 c).Start few (sym c.lengths_are-3.ensures ∙ c.if-lengths_are-3.true) (omega arith) c.four_sums-sums.ensures
-    c.put_sums-then-lengths_are-3.ensures
+    made_of (goal.at.returns-then-lengths_are-3 c).Start few (sym c.lengths_are-3.ensures ∙ c.if-lengths_are-3.true) (omega arith)
+    c.lowest_sums-sums-then-lengths_are-3.ensures c.put_sums-then-lengths_are-3.ensures

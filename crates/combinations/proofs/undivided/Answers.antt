@@ -1,8 +1,9 @@
 -- `combinations::undivided` meets its contract.
 -- Assumes nothing.
 use mathlib.Core.Path.{◌≡◌, sym, ◌∙◌, ap, subst}
-use mathlib.Core.Bool.{Bool, true, false}
+use mathlib.Core.Bool.{true}
 use mathlib.Core.List.{List}
+use Rattle.std.proofs.Common.{Option, Some}
 use Prim.Native.Nat.{ℕ, ◌*◌, ◌-◌, ◌/◌, ◌≤◌, max}
 use native.Mathlib.Omega.{arith}
 use lib.Dec.{T}
@@ -15,21 +16,21 @@ use Rattle.rules.specs.Rows.{width}
 use Rattle.rules.specs.Stores.{row_of}
 use Rattle.working_rows.specs.declared.WorkingRow.{WorkingRow}
 use Rattle.working_rows.specs.Working.{left-long, behind-all}
-use Rattle.combinations.specs.declared.Made.{Made}
+use Rattle.combinations.specs.declared.Known.{Known}
 use Rattle.combinations.specs.Combination.{both_within_of, Shortened, combinations}
 use Rattle.combinations.specs.Parts.{PartsFit, PartsMade}
 use Rattle.combinations.specs.Undivided.{RowsFit, blocks-most, left-fits, right-fits, left-made, right-made, right_sums}
 use Rattle.combinations.specs.Undivided.{past-left, past-right, after-long, after-width, made-whole}
 use Rattle.combinations.proofs.undivided.Goals as goal
-use Rattle.combinations.proofs.undivided.Goals.{After-wider-blocks, Start}
+use Rattle.combinations.proofs.undivided.Goals.{After-max-blocks, Start}
 
 tails : (n : ℕ) (g h : Polynomial) → both_within_of n g h ≡ true → T (is_zero_of (drop n g)) × T (is_zero_of (drop n h))
 tails n g h e = (T-&& (is_zero_of (drop n g)) (is_zero_of (drop n h))).0 (true-T _ e)
 
 -- the shortened multipliers, and how many blocks are gone over
-module _ (w : After-wider-blocks) where
+module _ (w : After-max-blocks) where
   abbrev start : Start
-  start = (goal.at.After-wider-blocks w).Start
+  start = (goal.at.After-max-blocks w).Start
 
   abbrev g : Polynomial
   g = start.args.g.now
@@ -58,19 +59,19 @@ module _ (w : After-wider-blocks) where
   y : Shortened b h
   y = w.front_of-b.ensures
 
-  blocks-are : w.wider-blocks.result ≡ max target.width start.args.width
-  blocks-are = w.wider-blocks.ensures
+  blocks-are : w.max-blocks.result ≡ max target.width start.args.width
+  blocks-are = w.max-blocks.ensures
 
   behind : take (length pivot - entries_length) (drop entries_length pivot) ≡ drop entries_length pivot
   behind = behind-all pivot start.requires.pivot-long
 
-  right_side : {d : ℕ} {u : Bool} {after : List ℤ} {r : Made}
+  right_side : {before : Known} {after : List ℤ} {r : Option Known}
       → PartsMade (combinations (length target.right / coefficient_count) a b target.right
-      (take (length pivot - entries_length) (drop entries_length pivot))) d u after r
-      → PartsMade (right_sums fits) d u after r
-  right_side {d} {u} {after} {r} made =
+      (take (length pivot - entries_length) (drop entries_length pivot))) before after r
+      → PartsMade (right_sums fits) before after r
+  right_side {before} {after} {r} made =
       right-made fits x y
-      (subst (λ l. PartsMade (combinations (length target.right / coefficient_count) a b target.right l) d u after r) behind made)
+      (subst (λ l. PartsMade (combinations (length target.right / coefficient_count) a b target.right l) before after r) behind made)
 
 pub front_of-a-requires : goal.front_of-a-requires
 front_of-a-requires c =
@@ -84,11 +85,11 @@ pub slice_bounds-put_parts-end-2 : goal.slice_bounds-put_parts-end-2
 slice_bounds-put_parts-end-2 c = sym (left-long c.args.pivot.now c.requires.pivot-long)
 
 pub overflow_mul-blocks : goal.overflow_mul-blocks
-overflow_mul-blocks c = let w = (goal.at.overflow_mul-blocks c).After-wider-blocks in omega (arith, blocks-are w, blocks-most (fits w))
+overflow_mul-blocks c = let w = (goal.at.overflow_mul-blocks c).After-max-blocks in omega (arith, blocks-are w, blocks-most (fits w))
 
-pub put_parts-left-requires : goal.put_parts-left-requires
-put_parts-left-requires c =
-    let w = (goal.at.put_parts-left-requires c).After-wider-blocks in
+pub put_parts-requires : goal.put_parts-requires
+put_parts-requires c =
+    let w = (goal.at.put_parts-requires c).After-max-blocks in
     let s = start w in
     let most = blocks-most (fits w) in
     let long = s.requires.target-full.entries-long in record {
@@ -101,14 +102,14 @@ put_parts-left-requires c =
           (left-fits (fits w) (x w) (y w));
     }
 
-pub returns-then-left : goal.returns-then-left
-returns-then-left c =
-    let w = (goal.at.returns-then-left c).After-wider-blocks in
-    c.past.ensures ∙ past-left (fits w) (left-made (fits w) (x w) (y w) c.put_parts-left.ensures) c.if-left.true
+pub returns-in_err-left : goal.returns-in_err-left
+returns-in_err-left c =
+    let w = (goal.at.returns-in_err-left c).After-max-blocks in
+    c.from_residual.ensures ∙ past-left (fits w) (left-made (fits w) (x w) (y w) c.in_err-left.ensures)
 
-pub put_parts-all-requires : goal.put_parts-all-requires
-put_parts-all-requires c =
-    let w = (goal.at.put_parts-all-requires c).After-wider-blocks in
+pub put_parts-requires-2 : goal.put_parts-requires-2
+put_parts-requires-2 c =
+    let w = (goal.at.put_parts-requires-2 c).After-max-blocks in
     let s = start w in
     let parts = right-fits (fits w) (x w) (y w) in record {
       count_le_polynomial_count = (
@@ -119,31 +120,26 @@ put_parts-all-requires c =
       parts_fit = subst (PartsFit 1 (a w) (b w) (target w).right) (sym (behind w)) parts;
     }
 
-pub returns-then-all : goal.returns-then-all
-returns-then-all c =
-    let w = (goal.at.returns-then-all c).After-wider-blocks in
-    c.past-then-all.ensures ∙ past-right (fits w) (right_side w c.put_parts-all.ensures) c.if-all.true
+pub returns-in_err-all : goal.returns-in_err-all
+returns-in_err-all c =
+    let w = (goal.at.returns-in_err-all c).After-max-blocks in
+    c.from_residual-in_err-all.ensures ∙ past-right (fits w) (right_side w c.in_err-all.ensures)
 
 pub width_within-after-requires : goal.width_within-after-requires
 width_within-after-requires c =
-    let w = (goal.at.width_within-after-requires c).After-wider-blocks in
-    let made = left-made (fits w) (x w) (y w) c.put_parts-left.ensures in
-    let low = c.if-left.false in (
-      after-long (fits w) made low,
+    let w = (goal.at.width_within-after-requires c).After-max-blocks in
+    let made = left-made (fits w) (x w) (y w) c.in_ok-left.ensures in (
+      after-long (fits w) made,
       omega (arith, blocks-are w, blocks-most (fits w)),
-      subst (λ n. width (row_of c.put_parts-left.new.place) ≤ n) (sym (blocks-are w)) (after-width (fits w) made low),
+      subst (λ n. width (row_of c.put_parts.new.place) ≤ n) (sym (blocks-are w)) (after-width (fits w) made),
     )
 
 pub returns : goal.returns
 returns c =
-    let w = (goal.at.returns c).After-wider-blocks in
-    let first = c.put_parts-left in
-    let second = c.put_parts-all in
-    ap (λ n. record {
-      beyond = false;
-      content = second.result.content;
-      within = second.result.within;
-      row = record { entries = first.new.place; right = second.new.place; width = n };
-    }) c.width_within-after.ensures
-    ∙ made-whole (fits w) (left-made (fits w) (x w) (y w) first.ensures) c.if-left.false (right_side w second.ensures)
-    c.if-all.false
+    let w = (goal.at.returns c).After-max-blocks in
+    ap (λ n. Some (record {
+      content = c.in_ok-all.all.content;
+      within = c.in_ok-all.all.within;
+      row = record { entries = c.put_parts.new.place; right = c.put_parts-2.new.place; width = n };
+    })) c.width_within-after.ensures
+    ∙ made-whole (fits w) (left-made (fits w) (x w) (y w) c.in_ok-left.ensures) (right_side w c.in_ok-all.ensures)

@@ -1,115 +1,79 @@
--- `common_roots::occurring` meets its contract. The invariant: the arrays hold those of the first i numbers that occur.
+-- `common_roots::occurring` meets its contract. The invariant: the array holds those of the first numbers that occur.
 -- Assumes nothing.
-use mathlib.Core.Path.{◌≡◌, refl, ◌∙◌, ap}
+use mathlib.Core.Path.{◌≡◌, refl, ◌∙◌, ap, subst}
 use mathlib.Core.List.{List}
-use Prim.Native.Nat.{ℕ, ◌≤◌, ◌<◌}
+use Prim.Native.Nat.{ℕ, ◌+◌, ◌≤◌, ◌<◌}
 use native.Mathlib.Omega.{arith}
-use borrow.Author.Rules.{sfits_of}
 use lib.IntN.{ℤ, pos}
-use lib.ListN.{length, get_or}
-use mir.Syntax.{w64}
-use mir.Val.{SFits}
-use mir.Facts.{to_z-of_z}
+use lib.ListN.{length, get_or, set, take}
 use lib.Seq.{take_all}
+use Rattle.std.proofs.lemmas.List.{length-map}
+use Rattle.lists.specs.Images.{get_or_map}
 use Rattle.lists.specs.Sifted.{keep}
+use Rattle.multiplicities.specs.declared.Root.{Root}
 use Rattle.multiplicities.specs.declared.RootsWith.{RootsWith}
-use Rattle.multiplicities.specs.Counts.{listed_with, held_with, value-at, times-at}
+use Rattle.multiplicities.specs.Counts.{listed_with, held_with, pair_of, root_of, no_root}
 use Rattle.common_roots.specs.Kept.{occurs, few-kept, kept-yes, kept-no}
 use Rattle.common_roots.proofs.occurring.Goals as goal
-use Rattle.common_roots.proofs.occurring.Goals.{After-r-1, In-loop-i, Start, else-k-gt0, then-k-gt0}
+use Rattle.common_roots.proofs.occurring.Goals.{At-loop-root, else-root-gt0, then-root-gt0}
 
--- What is handed in.
-module _ (c : Start) where
-  abbrev all : RootsWith
-  all = c.args.all
-
+-- What is handed in, and how many were looked at.
+module _ (c : At-loop-root) where
   abbrev l : List (ℤ × ℕ)
-  l = held_with all
+  l = held_with c.args.all
 
-  counted : all.count ≡ length l
-  counted = ap (λ w. w.count) c.requires.0
-
-  few : all.count ≤ 16
-  few = omega (arith, counted, c.requires.1)
-
--- The next pair.
-module _ (c : In-loop-i) where
-  abbrev start : Start
-  start = c.before.before.before.before
+  abbrev items : List Root
+  items = take c.args.all.count c.args.all.roots
 
   abbrev i : ℕ
-  i = c.loop-i.i
+  i = c.loop-root.root-index
 
-  below : i < 16
-  below = omega (arith, c.loop-i-test.true, few start)
+  size : length l ≡ length items
+  size = length-map items pair_of
 
-  inside : i < length (l start)
-  inside = omega (arith, c.loop-i-test.true, counted start)
+  few : length l ≤ 16
+  few = c.requires.1
 
-  room : c.loop-i.count < 16
-  room = omega (arith, ap (λ w. w.count) c.loop-i.invariant.1, few-kept (l start) i inside, below)
+  module _ (h : i < length items) where
+    inside : i < length l
+    inside = omega (arith, size)
 
-  times-is : get_or (all start).times i 0 ≡ (get_or (l start) i (pos 0, 0)).1
-  times-is = times-at (l start) start.requires.0 i inside
+    below : i < 16
+    below = omega (arith, size, few)
 
-  value-is : get_or (all start).values i (pos 0) ≡ (get_or (l start) i (pos 0, 0)).0
-  value-is = value-at (l start) start.requires.0 i inside
+    pair-is : get_or l i (pos 0, 0) ≡ pair_of (get_or items i no_root)
+    pair-is = get_or_map pair_of items i no_root (pos 0, 0) h
 
-pub loop-i-init : goal.loop-i-init
+    room : c.loop-root.kept.count < 16
+    room = omega (arith, ap (λ w. w.count) c.loop-root.invariant, few-kept l i inside, below)
+
+pub loop-root-init : goal.loop-root-init
 unfolding keep
-loop-i-init c = (omega arith, refl)
+loop-root-init c = refl
 
-pub offset_bounds-from-i : goal.offset_bounds-from-i
-offset_bounds-from-i c = omega (arith, below c)
+pub offset_bounds-kept-kept : goal.offset_bounds-kept-kept
+offset_bounds-kept-kept c = let h = room (goal.at.offset_bounds-kept-kept c).At-loop-root c.loop-root-test.true in omega arith
 
-pub bounds-from-i : goal.bounds-from-i
-bounds-from-i c = below c
+pub overflow_add-kept : goal.overflow_add-kept
+overflow_add-kept c = let h = room (goal.at.overflow_add-kept c).At-loop-root c.loop-root-test.true in omega arith
 
-fits-r : (c : After-r-1) → SFits w64 (get_or (all (start c.before)).values (i c.before) (pos 0))
-fits-r c = sfits_of c.r-1.given
+pub bounds-kept-kept : goal.bounds-kept-kept
+bounds-kept-kept c = room (goal.at.bounds-kept-kept c).At-loop-root c.loop-root-test.true
 
-pub offset_bounds-often-i : goal.offset_bounds-often-i
-offset_bounds-often-i c = omega (arith, below c.before)
-
-pub bounds-often-i : goal.bounds-often-i
-bounds-often-i c = below c.before
-
-pub offset_bounds-values-count : goal.offset_bounds-values-count
-offset_bounds-values-count c = omega (arith, room c.before.before)
-
-pub bounds-values-count : goal.bounds-values-count
-bounds-values-count c = room c.before.before
-
-pub offset_bounds-times-count : goal.offset_bounds-times-count
-offset_bounds-times-count c = omega (arith, room c.before.before)
-
-pub bounds-times-count : goal.bounds-times-count
-bounds-times-count c = room c.before.before
-
-pub overflow_add-count : goal.overflow_add-count
-overflow_add-count c = omega (arith, room c.before.before)
-
-pub overflow_add-i : goal.overflow_add-i
-overflow_add-i c = omega (arith, below c.before.before)
-
-pub loop-i-smaller : goal.loop-i-smaller
-loop-i-smaller c = omega (arith, c.loop-i-test.true)
-
-pub loop-i-preserved : goal.loop-i-preserved
-loop-i-preserved c =
-    let turn = c.before.before in
-    let before = turn.loop-i.invariant.1 in
-    let pairs = l (start turn) in (
-      omega (arith, turn.loop-i-test.true),
-      elim c.if-k-gt0.branch [
-        | then-k-gt0 w ↦ rw (w.values-is, w.times-is, w.count-is, to_z-of_z (fits-r c.before), value-is turn, times-is turn)
-            (kept-yes pairs (i turn) (inside turn) (below turn) before (omega (arith, w.if-k-gt0.true, times-is turn)))
-        | else-k-gt0 w ↦ rw (w.values-is, w.times-is, w.count-is) (kept-no pairs (i turn) (inside turn) before (omega (arith, w.if-k-gt0.false, times-is turn)))
-      ],
-    )
+pub loop-root-preserved : goal.loop-root-preserved
+loop-root-preserved c =
+    let at = (goal.at.loop-root-preserved c).At-loop-root in
+    let h = c.loop-root-test.true in
+    let is = pair-is at h in
+    elim c.if-root-gt0.branch [
+      | then-root-gt0 w ↦ rw w.kept-is (subst (λ x. ◌≡◌ {A = RootsWith}
+          (record { count = c.loop-root.kept.count + 1; roots = set c.loop-root.kept.roots c.loop-root.kept.count (root_of x) })
+          (listed_with (keep occurs (take (i at + 1) (l at))))) is
+          (kept-yes (l at) (i at) (inside at h) (below at h) c.loop-root.invariant (rw is w.if-root-gt0.true)))
+      | else-root-gt0 w ↦ rw w.kept-is (kept-no (l at) (i at) (inside at h) c.loop-root.invariant (omega (arith, ap (λ x. x.1) is, w.if-root-gt0.false)))
+    ]
 
 pub returns : goal.returns
 returns c =
-    let s = c.before.before.before.before in
-    let whole = take_all c.loop-i.i (l s) (omega (arith, c.loop-i-test.false, counted s)) in
-    c.loop-i.invariant.1 ∙ ap (λ m. listed_with (keep occurs m)) whole
+    let at = (goal.at.returns c).At-loop-root in
+    c.loop-root.invariant ∙ ap (λ m. listed_with (keep occurs m)) (take_all (i at) (l at) (omega (arith, size at, c.loop-root-test.false)))

@@ -1,19 +1,12 @@
--- `common_roots::occurring` meets its contract. The invariant: the arrays hold those of the first i numbers that occur.
+-- `common_roots::occurring` meets its contract. The invariant: the array holds those of the first numbers that occur.
 -- Assumes nothing.
 use mathlib.Core.Path.{◌≡◌}
-use Prim.Native.Nat.{◌-◌, ◌≤◌}
 use lib.ListN.{take}
 use Rattle.lists.specs.Sifted.{keep}
-use Rattle.multiplicities.specs.declared.RootsWith.{RootsWith}
-use Rattle.multiplicities.specs.Counts.{listed_with, held_with}
+use Rattle.multiplicities.specs.Counts.{listed_with, pair_of}
 use Rattle.common_roots.specs.Kept.{occurs}
+use Rattle.std.specs.Prelude.{map}
 use Rattle.common_roots.proofs.occurring.Given as goal
 
-abbrev pub invariant-loop-i : goal.invariant-loop-i
-invariant-loop-i l =
-    (l.i ≤ l.n)
-    × (◌≡◌ {A = RootsWith} (record { count = l.count; values = l.values; times = l.times })
-    (listed_with (keep occurs (take l.i (held_with (record { count = l.n; values = l.from; times = l.often }))))))
-
-abbrev pub decreases-loop-i : goal.decreases-loop-i
-decreases-loop-i l = l.n - l.i
+abbrev pub invariant-loop-root : goal.invariant-loop-root
+invariant-loop-root l = l.kept ≡ listed_with (keep occurs (take l.root-index (map pair_of l.root-items)))

@@ -21,7 +21,7 @@ use Rattle.rules.specs.Stores.{row_of, row_right_of, unused_zero_of}
 use Rattle.rules.specs.Stores as Stores
 use Rattle.stores.specs.Validity.{the_sizes_of}
 use Rattle.constant_rows.specs.Constants.{entry_at}
-use Rattle.constant_rows.specs.ConstantStores.{judged_of, block_of, below-zero, from_zero, entry-none, entry_zero, polynomial_there, column-below}
+use Rattle.constant_rows.specs.ConstantStores.{block_of, below-zero, from_zero, entry-none, entry_zero, polynomial_there, column-below}
 use Rattle.constant_rows.specs.ConstantStores.{column-in, column-past, near, l-near, span-few}
 use Rattle.constant_rows.proofs.column_entry.Goals as goal
 use Rattle.constant_rows.proofs.column_entry.Goals.{After-block_at-block, Else-block-lt0, Start}
@@ -79,7 +79,6 @@ block_at-block-requires c =
     simp (to_z-of_z {w = w64} (l-fits (goal.at.Start s).Start), to_z-of_z {w = w64} s.ranges.n) (s.requires.t_2.2, l-small (goal.at.Start s).Start, s.requires.index_lt_list_columns.0)
 
 pub returns-then-block-lt0 : goal.returns-then-block-lt0
-unfolding judged_of
 returns-then-block-lt0 c =
     let a = (goal.at.returns-then-block-lt0 c).After-block_at-block in
     let s = st a in
@@ -105,7 +104,6 @@ pub overflow_cast-place : goal.overflow_cast-place
 overflow_cast-place c = rw (block_back (goal.at.overflow_cast-place c).After-block_at-block) ((from_zero (block (goal.at.overflow_cast-place c).After-block_at-block) (not-below c)).0, Fits-nat_abs {w = w64} {z = block (goal.at.overflow_cast-place c).After-block_at-block} tt (sfits_of c.block_at-block.type_inv))
 
 pub returns-then-span-place : goal.returns-then-span-place
-unfolding judged_of
 returns-then-span-place c =
     let d = (goal.at.returns-then-span-place c).Else-block-lt0 in
     let s = st (goal.at.Else-block-lt0 d).After-block_at-block in

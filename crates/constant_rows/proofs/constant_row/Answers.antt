@@ -29,11 +29,11 @@ use Rattle.constant_rows.specs.Constants.{Judged, fine, each, entry_at, column_p
 use Rattle.constant_rows.specs.RowCounts.{columns-bound}
 use Rattle.constant_rows.specs.ListLengths.{list_columns}
 use Rattle.constant_rows.specs.ConstantStores.{judged_of, each_both, each-stops, each_none, each-one, made-reports}
-use Rattle.constant_rows.specs.ConstantStores.{passed-reports, all-columns, next-column, column-polynomial, l-near, t-near}
+use Rattle.constant_rows.specs.ConstantStores.{refused-reports, all-columns, next-column, column-polynomial, l-near, t-near}
 use Rattle.constant_rows.specs.ConstantStores.{Clamped, unmet-before, unmet-behind, zeros-made, cleared_at}
-use Rattle.constant_rows.specs.declared.Entry.TheVariants.{Fine, Passed}
+use Rattle.std.proofs.Common.{Ok, Err}
 use Rattle.constant_rows.proofs.constant_row.Goals as goal
-use Rattle.constant_rows.proofs.constant_row.Goals.{After-clamped, After-clear, After-column_entry, In-Fine, In-loop-j, Start}
+use Rattle.constant_rows.proofs.constant_row.Goals.{After-clamped, After-clear, After-column_entry, In_ok-place, In-loop-j, Start, then-unknown-m, else-unknown-m}
 
 module _ (s : Start) where
   abbrev z : Stores.Sizes
@@ -199,9 +199,6 @@ module _ (c : After-clamped) where
 pub overflow_mul-end : goal.overflow_mul-end
 overflow_mul-end c = omega (arith, inside_past c, few (begun c))
 
-pub overflow_mul-j : goal.overflow_mul-j
-overflow_mul-j c = omega (arith, inside-first c, few (begun c))
-
 pub loop-j-init : goal.loop-j-init
 loop-j-init c =
     let s = begun c in
@@ -267,39 +264,35 @@ offset_bounds-place-j c = omega (arith, inside (goal.at.offset_bounds-place-j c)
 pub bounds-place-j : goal.bounds-place-j
 bounds-place-j c = let d = (goal.at.bounds-place-j c).In-loop-j in omega (arith, inside d, d.loop-j.invariant.0)
 
-pub shape_of-place-in-Passed : goal.shape_of-place-in-Passed
-shape_of-place-in-Passed c = let d = (goal.at.shape_of-place-in-Passed c).In-loop-j in (d.loop-j.invariant.0 ∙ sym (st d).requires.last_le_largest_index.1)
-
-pub returns-in-Passed : goal.returns-in-Passed
-unfolding constant_row_of judged_of
-returns-in-Passed c =
-    let e = (goal.at.returns-in-Passed c).After-column_entry in
+pub returns-in_err-place : goal.returns-in_err-place
+unfolding constant_row_of
+returns-in_err-place c =
+    let e = (goal.at.returns-in_err-place c).After-column_entry in
     let d = (goal.at.After-column_entry e).In-loop-j in
     let s = st d in
     let k = d.loop-j.j in
-    let told : e.column_entry.result ≡ Passed c.in-Passed.limit = c.in-Passed.is in
+    let r = c.in_err-place.field-0.0 in
+    let told : e.column_entry.result ≡ Err r = c.in_err-place.was in
     let stops = sym (entry-is e) ∙ ap judged_of told in
-    passed-reports _ (constant_row_of (m (goal.at.Start s).Start) (l (goal.at.Start s).Start) s.args.last (row_of s.args.row.now) (n (goal.at.Start s).Start)) _
+    refused-reports _ (constant_row_of (m (goal.at.Start s).Start) (l (goal.at.Start s).Start) s.args.last (row_of s.args.row.now) (n (goal.at.Start s).Start)) _ r
+    c.from_residual.ensures.1
     (all-columns (f (goal.at.Start s).Start) k (columns (goal.at.Start s).Start) (in_row d)
     ∙ each-stops (f (goal.at.Start s).Start) (count_from 0 k) _ _ _ (before-j d) (each_none (f (goal.at.Start s).Start) k (count_from (suc k) (columns (goal.at.Start s).Start - suc k)) _ stops))
-
-pub overflow_add-j : goal.overflow_add-j
-overflow_add-j c = omega (arith, inside (goal.at.overflow_add-j c).In-loop-j)
 
 pub overflow_add-unknown : goal.overflow_add-unknown
 overflow_add-unknown c =
     let d = (goal.at.overflow_add-unknown c).In-loop-j in omega (arith, below d, few-unknowns (st d))
 
 -- Behind a turn that makes an entry.
-module _ (c : In-Fine) where
+module _ (c : In_ok-place) where
   abbrev e : After-column_entry
-  e = (goal.at.In-Fine c).After-column_entry
+  e = (goal.at.In_ok-place c).After-column_entry
 
   abbrev turn : In-loop-j
   turn = (goal.at.After-column_entry e).In-loop-j
 
   abbrev value : ℤ
-  value = c.in-Fine.value
+  value = c.in_ok-place.field-0
 
   value-fits : SFits w64 value
   value-fits = search rules
@@ -308,11 +301,10 @@ module _ (c : In-Fine) where
   placed = set (place turn) (j turn) value
 
   more : each (f (st turn)) (count_from 0 (j turn + 1)) ≡ fine (take (j turn + 1) placed)
-  unfolding judged_of
   more =
       let s = st turn in
       let k = j turn in
-      let told : e.column_entry.result ≡ Fine value = c.in-Fine.is in
+      let told : e.column_entry.result ≡ Ok value = c.in_ok-place.was in
       let found : f (goal.at.Start s).Start k ≡ fine value = sym (entry-is e) ∙ ap judged_of told in
       let longer : take (k + 1) placed ≡ take k (place turn) ++ (value ∷ []) =
       ap (λ i. take i placed) (add-one k) ∙ take-suc-set (place turn) k value (omega (arith, inside turn, turn.loop-j.invariant.0)) in
@@ -324,39 +316,24 @@ module _ (c : In-Fine) where
       get_or-set_other (place turn) (j turn) k value (pos 0) (λ e. absurd (omega arith)) ∙ turn.loop-j.invariant.5 k (omega arith) below
 
 pub overflow_add-index : goal.overflow_add-index
-overflow_add-index c = omega (arith, index-inside (turn (goal.at.overflow_add-index c).In-Fine))
-
-pub loop-j-smaller-then-unknown-m : goal.loop-j-smaller-then-unknown-m
-loop-j-smaller-then-unknown-m c = omega (arith, (turn (goal.at.loop-j-smaller-then-unknown-m c).In-Fine).loop-j-test.true)
-
-pub loop-j-preserved-then-unknown-m : goal.loop-j-preserved-then-unknown-m
-loop-j-preserved-then-unknown-m c =
-    let k = (goal.at.loop-j-preserved-then-unknown-m c).In-Fine in
-    let d = turn k in
-    let s = st d in
-    simp (to_z-of_z {w = w64} s.ranges.n, to_z-of_z {w = w64} (value-fits k)) (
-      length-set (place d) (j d) (value k) ∙ d.loop-j.invariant.0,
-      omega (arith, in_row d),
-      more k,
-      omega (arith, counted d, c.if-unknown-m.true, suc-mul (index d) (m (goal.at.Start s).Start)),
-      some (goal.at.Start s).Start,
-      left k,
-    )
-
-pub loop-j-smaller : goal.loop-j-smaller
-loop-j-smaller c = omega (arith, (turn (goal.at.loop-j-smaller c).In-Fine).loop-j-test.true)
+overflow_add-index c = omega (arith, index-inside (turn (goal.at.overflow_add-index c).In_ok-place))
 
 pub loop-j-preserved : goal.loop-j-preserved
 loop-j-preserved c =
-    let k = (goal.at.loop-j-preserved c).In-Fine in
+    let k = (goal.at.loop-j-preserved c).In_ok-place in
     let d = turn k in
     let s = st d in
+    let next : (j d + 1 ≡ c.if-unknown-m.index * m s + c.if-unknown-m.unknown) × (c.if-unknown-m.unknown < m s) =
+    elim c.if-unknown-m.branch [
+      | then-unknown-m w ↦ rw (w.index-is, w.unknown-is) (omega (arith, counted d, w.if-unknown-m.true, suc-mul (index d) (m s)), some s)
+      | else-unknown-m w ↦ rw (w.index-is, w.unknown-is) (omega (arith, counted d), omega (arith, below d, w.if-unknown-m.false))
+    ] in
     simp (to_z-of_z {w = w64} s.ranges.n, to_z-of_z {w = w64} (value-fits k)) (
       length-set (place d) (j d) (value k) ∙ d.loop-j.invariant.0,
       omega (arith, in_row d),
       more k,
-      omega (arith, counted d),
-      omega (arith, below d, c.if-unknown-m.false),
+      next.0,
+      next.1,
       left k,
     )
 
@@ -364,7 +341,7 @@ pub shape_of-place : goal.shape_of-place
 shape_of-place c = (c.loop-j.invariant.0 ∙ sym (begun (goal.at.shape_of-place c).After-clamped).requires.last_le_largest_index.1)
 
 pub returns : goal.returns
-unfolding constant_row_of judged_of
+unfolding constant_row_of
 returns c =
     let b = (goal.at.returns c).After-clamped in
     let s = begun b in

@@ -2,7 +2,7 @@
 -- behind them there are zeros; column j is that of the index and the unknown that are counted along.
 -- Assumes nothing.
 use mathlib.Core.Path.{◌≡◌}
-use Prim.Native.Nat.{ℕ, ◌+◌, ◌*◌, ◌-◌, ◌≤◌, ◌<◌}
+use Prim.Native.Nat.{ℕ, ◌+◌, ◌*◌, ◌≤◌, ◌<◌}
 use lib.IntN.{pos}
 use lib.ListN.{length, take, get_or}
 use Rattle.algebra.specs.Sums.{count_from}
@@ -17,6 +17,3 @@ invariant-loop-j l =
     × (each (λ k. entry_at l.n (column_polynomial l.sizes.m l.sizes.l (row_of l.row) l.n k)) (count_from 0 l.j) ≡ fine (take l.j l.place))
     × (l.j ≡ l.index * l.sizes.m + l.unknown) × (l.unknown < l.sizes.m)
     × ((k : ℕ) → l.j ≤ k → k < the_columns_of l.sizes.m l.last → get_or l.place k (pos 0) ≡ pos 0)
-
-abbrev pub decreases-loop-j : goal.decreases-loop-j
-decreases-loop-j l = l.end - l.j

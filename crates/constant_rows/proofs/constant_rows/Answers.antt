@@ -21,10 +21,11 @@ use Rattle.constant_rows.specs.ListLengths.{list_columns, matrix_need}
 use Rattle.constant_rows.specs.Matrices.{matrix_rows, Reports}
 use Rattle.constant_rows.specs.RowLimits.{Limits, row-limits, each-limits}
 use Rattle.constant_rows.specs.ConstantStores.{row_at, at_index, groups, part_length, span-few, matrix-put, length-matrix_rows}
-use Rattle.constant_rows.specs.ConstantStores.{kept_put, each-stopped, reports-made, reports-passed, reports-behind}
-use Rattle.constant_rows.specs.ConstantStores.{passed-reports}
+use Rattle.constant_rows.specs.ConstantStores.{kept_put, each-stopped, told-made, told-passed, reports-behind}
+use Rattle.constant_rows.specs.ConstantStores.{refused-reports}
+use Rattle.refusals.specs.Refusals.{refusal_in}
 use Rattle.constant_rows.proofs.constant_rows.Goals as goal
-use Rattle.constant_rows.proofs.constant_rows.Goals.{After-indexed_rows-limit, After-relation_rows, After-struct_known-1, Else-limit-ne0, Start}
+use Rattle.constant_rows.proofs.constant_rows.Goals.{After-indexed_rows, After-relation_rows, After-struct_known-1, In_ok-indexed_rows, Start}
 
 module _ (s : Start) where
   abbrev z : Stores.Sizes
@@ -123,40 +124,40 @@ overflow_mul-middle c = omega (arith, few-rows c)
 pub slice_bounds-indexed_rows-end : goal.slice_bounds-indexed_rows-end
 slice_bounds-indexed_rows-end c = inside c
 
-pub indexed_rows-limit-requires : goal.indexed_rows-limit-requires
+pub indexed_rows-requires : goal.indexed_rows-requires
 unfolding the_sizes_of Stores.equations
-indexed_rows-limit-requires c =
-    let t = (goal.at.indexed_rows-limit-requires c).After-struct_known-1 in
+indexed_rows-requires c =
+    let t = (goal.at.indexed_rows-requires c).After-struct_known-1 in
     let s = s0 t in record {
       t = ((right (goal.at.Start s).Start).sizes, (long (goal.at.Start s).Start).0, (numbers (goal.at.Start s).Start).rows_right);
       last_le_largest_index = (s.requires.1, mid_len 0 (middle t) (matrix (goal.at.Start s).Start) (inside t) ∙ sub-zero (middle t) ∙ ap (λ k. k * list_columns) (rows_are t));
     }
 
 -- What the equations made.
-module _ (a : After-indexed_rows-limit) where
+module _ (a : After-indexed_rows) where
   abbrev t : After-struct_known-1
-  t = (goal.at.After-indexed_rows-limit a).After-struct_known-1
+  t = (goal.at.After-indexed_rows a).After-struct_known-1
 
   abbrev st : Start
   st = s0 t
 
   abbrev q : List ℤ
-  q = a.indexed_rows-limit.new.part
+  q = a.indexed_rows.new.part
 
   abbrev half : List ℤ
   half = put_mid 0 (middle t - 0) (matrix (goal.at.Start st).Start) q
 
   q-long : length q ≡ length (take (middle t - 0) (drop 0 (matrix (goal.at.Start st).Start)))
-  q-long = a.indexed_rows-limit.auto.part
+  q-long = a.indexed_rows.auto.part
 
   half-kept : Kept matrix_need (matrix (goal.at.Start st).Start) half
   half-kept = kept_put matrix_need 0 (middle t) (matrix (goal.at.Start st).Start) q zero-le (needed t) (inside t) q-long
 
-  reported : Reports (λ v. matrix_rows (columns (goal.at.Start st).Start) (E t) q ≡ v) (each (row_at (z (goal.at.Start st).Start) (N (goal.at.Start st).Start)) (equations (goal.at.Start st).Start)) a.indexed_rows-limit.result
+  reported : Reports (λ v. matrix_rows (columns (goal.at.Start st).Start) (E t) q ≡ v) (each (row_at (z (goal.at.Start st).Start) (N (goal.at.Start st).Start)) (equations (goal.at.Start st).Start)) (refusal_in a.indexed_rows.result)
   unfolding groups the_sizes_of
   reported =
-      subst (λ k. Reports (λ v. matrix_rows (columns (goal.at.Start st).Start) k q ≡ v) (each (row_at (z (goal.at.Start st).Start) (N (goal.at.Start st).Start)) (equations (goal.at.Start st).Start)) a.indexed_rows-limit.result)
-      (sym (rows_are t)) a.indexed_rows-limit.ensures
+      subst (λ k. Reports (λ v. matrix_rows (columns (goal.at.Start st).Start) k q ≡ v) (each (row_at (z (goal.at.Start st).Start) (N (goal.at.Start st).Start)) (equations (goal.at.Start st).Start)) (refusal_in a.indexed_rows.result))
+      (sym (rows_are t)) a.indexed_rows.ensures
 
   half-rows : matrix_rows (columns (goal.at.Start st).Start) (E t) half ≡ matrix_rows (columns (goal.at.Start st).Start) (E t) q
   unfolding matrix_rows parts
@@ -165,24 +166,24 @@ module _ (a : After-indexed_rows-limit) where
       ∙ matrix-put (columns (goal.at.Start st).Start) 0 (E t) (middle t - 0) (matrix (goal.at.Start st).Start) q zero-le
       (le_of_eq (sym (q-long ∙ mid_len 0 (middle t) (matrix (goal.at.Start st).Start) (inside t) ∙ sub-zero (middle t))))
 
-pub shape_of-matrix-then-limit-ne0 : goal.shape_of-matrix-then-limit-ne0
-shape_of-matrix-then-limit-ne0 c = (half-kept (goal.at.shape_of-matrix-then-limit-ne0 c).After-indexed_rows-limit).same_length
+pub shape_of-matrix-in_err-indexed_rows : goal.shape_of-matrix-in_err-indexed_rows
+shape_of-matrix-in_err-indexed_rows c = (half-kept (goal.at.shape_of-matrix-in_err-indexed_rows c).After-indexed_rows).same_length
 
-pub returns-then-limit-ne0 : goal.returns-then-limit-ne0
+pub returns-in_err-indexed_rows : goal.returns-in_err-indexed_rows
 unfolding constant_rows_of asked groups row_at at_index the_sizes_of Stores.equations
-returns-then-limit-ne0 c =
-    let a = (goal.at.returns-then-limit-ne0 c).After-indexed_rows-limit in
+returns-in_err-indexed_rows c =
+    let a = (goal.at.returns-in_err-indexed_rows c).After-indexed_rows in
     let s = st a in record {
-      reports = passed-reports _ (constant_rows_of (z (goal.at.Start s).Start) (N (goal.at.Start s).Start) (rows_of (e (goal.at.Start s).Start) (rows (goal.at.Start s).Start)) (relations_of (count (goal.at.Start s).Start) (relations (goal.at.Start s).Start))) _
+      reports = refused-reports _ (constant_rows_of (z (goal.at.Start s).Start) (N (goal.at.Start s).Start) (rows_of (e (goal.at.Start s).Start) (rows (goal.at.Start s).Start)) (relations_of (count (goal.at.Start s).Start) (relations (goal.at.Start s).Start))) _ c.in_err-indexed_rows.field-0.0 c.from_residual.ensures.1
           (each-stopped (row_at (z (goal.at.Start s).Start) (N (goal.at.Start s).Start)) (equations (goal.at.Start s).Start) (relations_of (count (goal.at.Start s).Start) (relations (goal.at.Start s).Start)) _
-          (reports-passed _ _ _ (reported a) c.if-limit-ne0.true));
+          (told-passed _ _ _ c.in_err-indexed_rows.field-0.0 (reported a) c.in_err-indexed_rows.was));
       kept = half-kept a;
     }
 
 -- The rows of the equations stand; those of the relations come behind them.
-module _ (d : Else-limit-ne0) where
-  abbrev first : After-indexed_rows-limit
-  first = (goal.at.Else-limit-ne0 d).After-indexed_rows-limit
+module _ (d : In_ok-indexed_rows) where
+  abbrev first : After-indexed_rows
+  first = (goal.at.In_ok-indexed_rows d).After-indexed_rows
 
   abbrev s2 : Start
   s2 = st first
@@ -198,7 +199,7 @@ module _ (d : Else-limit-ne0) where
 
   made : each (row_at (z (goal.at.Start s2).Start) (N (goal.at.Start s2).Start)) (equations (goal.at.Start s2).Start) ≡ fine (matrix_rows (columns (goal.at.Start s2).Start) (E (t first)) (half first))
   made =
-      let (v, found, same) = reports-made _ _ _ (each-limits (row_at (z (goal.at.Start s2).Start) (N (goal.at.Start s2).Start)) (limits (goal.at.Start s2).Start) (equations (goal.at.Start s2).Start)) (reported first) d.if-limit-ne0.false in
+      let (v, found, same) = told-made _ _ _ tt (each-limits (row_at (z (goal.at.Start s2).Start) (N (goal.at.Start s2).Start)) (limits (goal.at.Start s2).Start) (equations (goal.at.Start s2).Start)) (reported first) d.in_ok-indexed_rows.was in
       found ∙ ap fine (sym same ∙ sym (half-rows first))
 
 pub overflow_mul-end : goal.overflow_mul-end
@@ -215,7 +216,7 @@ slice_bounds-relation_rows-end c = end-inside c
 
 pub relation_rows-requires : goal.relation_rows-requires
 relation_rows-requires c =
-    let d = (goal.at.relation_rows-requires c).Else-limit-ne0 in
+    let d = (goal.at.relation_rows-requires c).In_ok-indexed_rows in
     let s = s2 d in record {
       t = ((right (goal.at.Start s).Start).sizes, few-relations (goal.at.Start s).Start, (long (goal.at.Start s).Start).1, (numbers (goal.at.Start s).Start).relations-right);
       last_le_largest_index = (s.requires.1, part_length (middle (t (first d))) (count (goal.at.Start s).Start * list_columns) (half (first d)) (end-inside d));
@@ -223,8 +224,8 @@ relation_rows-requires c =
 
 -- What the relations made.
 module _ (b : After-relation_rows) where
-  abbrev d2 : Else-limit-ne0
-  d2 = (goal.at.After-relation_rows b).Else-limit-ne0
+  abbrev d2 : In_ok-indexed_rows
+  d2 = (goal.at.After-relation_rows b).In_ok-indexed_rows
 
   abbrev s3 : Start
   s3 = s2 d2
@@ -264,7 +265,7 @@ returns c =
     let f = row_at (z (goal.at.Start s).Start) (N (goal.at.Start s).Start) in
     let a = matrix_rows (columns (goal.at.Start s).Start) (E (t (first (d2 b)))) (half (first (d2 b))) in record {
       reports = reports-behind f (λ v. matrix_rows (columns (goal.at.Start s).Start) (count (goal.at.Start s).Start) (p b) ≡ v) (λ v. matrix_rows (columns (goal.at.Start s).Start) (length v) (whole b) ≡ v)
-          (equations (goal.at.Start s).Start) (relations_of (count (goal.at.Start s).Start) (relations (goal.at.Start s).Start)) a b.relation_rows.result (made (d2 b)) b.relation_rows.ensures
+          (equations (goal.at.Start s).Start) (relations_of (count (goal.at.Start s).Start) (relations (goal.at.Start s).Start)) a (refusal_in b.relation_rows.result) (made (d2 b)) b.relation_rows.ensures
           (λ v same. ap (λ k. matrix_rows (columns (goal.at.Start s).Start) k (whole b))
           (length-append a v ∙ ap₂ ◌+◌ (length-matrix_rows (columns (goal.at.Start s).Start) (E (t (first (d2 b)))) (half (first (d2 b))))
           (ap length (sym same) ∙ length-matrix_rows (columns (goal.at.Start s).Start) (count (goal.at.Start s).Start) (p b))) ∙ behind b ∙ ap (λ w. a ++ w) same);

@@ -23,10 +23,11 @@ use Rattle.constant_rows.specs.ListLengths.{list_columns}
 use Rattle.constant_rows.specs.Matrices.{matrix_rows, Reports}
 use Rattle.constant_rows.specs.RowLimits.{Limits, row-limits}
 use Rattle.constant_rows.specs.ConstantStores.{row_at, at_index, equation-at, length-at_index, right-row, small-numbers}
-use Rattle.constant_rows.specs.ConstantStores.{filled_next, filled-stop, part_length, reports-made, reports-passed, made-reports}
-use Rattle.constant_rows.specs.ConstantStores.{passed-reports}
+use Rattle.constant_rows.specs.ConstantStores.{filled_next, filled-stop, part_length, told-made, told-passed, made-reports}
+use Rattle.constant_rows.specs.ConstantStores.{refused-reports}
+use Rattle.refusals.specs.Refusals.{number_of, refusal_in}
 use Rattle.constant_rows.proofs.equation_rows.Goals as goal
-use Rattle.constant_rows.proofs.equation_rows.Goals.{After-constant_row-limit, In-loop-i, Start}
+use Rattle.constant_rows.proofs.equation_rows.Goals.{After-constant_row, In-loop-i, Start}
 
 module _ (s : Start) where
   abbrev z : Stores.Sizes
@@ -110,9 +111,9 @@ offset_bounds-part-at c = omega (arith, below (goal.at.offset_bounds-part-at c).
 pub slice_bounds-constant_row-end : goal.slice_bounds-constant_row-end
 slice_bounds-constant_row-end c = room (goal.at.slice_bounds-constant_row-end c).In-loop-i
 
-pub constant_row-limit-requires : goal.constant_row-limit-requires
-constant_row-limit-requires c =
-    let d = (goal.at.constant_row-limit-requires c).In-loop-i in
+pub constant_row-requires : goal.constant_row-requires
+constant_row-requires c =
+    let d = (goal.at.constant_row-requires c).In-loop-i in
     let s = st d in
     let right = right-row (z (goal.at.Start s).Start) (e (goal.at.Start s).Start) (rows (goal.at.Start s).Start) (i d) (below d) s.requires.t.2 in
     simp (to_z-of_z {w = w64} s.ranges.n) record {
@@ -122,12 +123,12 @@ constant_row-limit-requires c =
     }
 
 -- What was made of the row.
-module _ (a : After-constant_row-limit) where
+module _ (a : After-constant_row) where
   abbrev dd : In-loop-i
-  dd = (goal.at.After-constant_row-limit a).In-loop-i
+  dd = (goal.at.After-constant_row a).In-loop-i
 
   abbrev q : List ℤ
-  q = a.constant_row-limit.new.place
+  q = a.constant_row.new.place
 
   abbrev at : ℕ
   at = i dd * list_columns
@@ -136,7 +137,7 @@ module _ (a : After-constant_row-limit) where
   asked = get_or (asks (st dd)) (i dd) (record { index = n (st dd); row = no_row })
 
   q-long : length q ≡ length (take (at + list_columns - at) (drop at (part dd)))
-  q-long = a.constant_row-limit.auto.place
+  q-long = a.constant_row.auto.place
 
   row-long : length q ≡ list_columns
   row-long = q-long ∙ part_length at list_columns (part dd) (room dd)
@@ -144,36 +145,30 @@ module _ (a : After-constant_row-limit) where
   all-long : length (put_mid at (at + list_columns - at) (part dd) q) ≡ e (st dd) * list_columns
   all-long = same_len_mid at (at + list_columns - at) (part dd) q q-long ∙ dd.loop-i.invariant.0
 
-  reported : Reports (λ v. take (width (st dd)) q ≡ v) (row_at (z (st dd)) (N (st dd)) asked) a.constant_row-limit.result
+  reported : Reports (λ v. take (width (st dd)) q ≡ v) (row_at (z (st dd)) (N (st dd)) asked) (refusal_in a.constant_row.result)
   unfolding row_at the_sizes_of
   reported =
-      subst (λ x. Reports (λ v. take (width (st dd)) q ≡ v) (row_at (z (st dd)) (N (st dd)) x) a.constant_row-limit.result)
+      subst (λ x. Reports (λ v. take (width (st dd)) q ≡ v) (row_at (z (st dd)) (N (st dd)) x) (refusal_in a.constant_row.result))
       (sym (equation-at (n (st dd)) (e (st dd)) (rows (st dd)) (i dd) (below dd)))
-      (simp (to_z-of_z {w = w64} (st dd).ranges.n, a.row_at-row.ensures.result_value) at a.constant_row-limit.ensures)
+      (simp (to_z-of_z {w = w64} (st dd).ranges.n, a.row_at-row.ensures.result_value) at a.constant_row.ensures)
 
-pub shape_of-part-then-limit-ne0 : goal.shape_of-part-then-limit-ne0
-shape_of-part-then-limit-ne0 c = let a = (goal.at.shape_of-part-then-limit-ne0 c).After-constant_row-limit in all-long a ∙ sym (st (dd a)).requires.n_bound.2
+pub shape_of-part-in_err-constant_row : goal.shape_of-part-in_err-constant_row
+shape_of-part-in_err-constant_row c = let a = (goal.at.shape_of-part-in_err-constant_row c).After-constant_row in all-long a ∙ sym (st (dd a)).requires.n_bound.2
 
-pub returns-then-limit-ne0 : goal.returns-then-limit-ne0
-returns-then-limit-ne0 c =
-    let a = (goal.at.returns-then-limit-ne0 c).After-constant_row-limit in
+pub returns-in_err-constant_row : goal.returns-in_err-constant_row
+returns-in_err-constant_row c =
+    let a = (goal.at.returns-in_err-constant_row c).After-constant_row in
     let s = st (dd a) in
-    passed-reports _ (each (row_at (z s) (N s)) (asks s)) _
-    (filled-stop (row_at (z s) (N s)) (width s) (asks s) (record { index = n s; row = no_row }) (i (dd a)) a.constant_row-limit.result _
-    (here (dd a)) (before-i (dd a)) (reports-passed _ _ _ (reported a) c.if-limit-ne0.true))
-
-pub overflow_add-i : goal.overflow_add-i
-overflow_add-i c = let d = dd (goal.at.overflow_add-i c).After-constant_row-limit in omega (arith, below d, few (st d))
-
-pub loop-i-smaller : goal.loop-i-smaller
-loop-i-smaller c = let d = dd (goal.at.loop-i-smaller c).After-constant_row-limit in omega (arith, below d)
+    refused-reports _ (each (row_at (z s) (N s)) (asks s)) _ c.in_err-constant_row.field-0.0 c.from_residual.ensures.1
+    (filled-stop (row_at (z s) (N s)) (width s) (asks s) (record { index = n s; row = no_row }) (i (dd a)) (number_of c.in_err-constant_row.field-0.0) _
+    (here (dd a)) (before-i (dd a)) (told-passed _ _ _ c.in_err-constant_row.field-0.0 (reported a) c.in_err-constant_row.was))
 
 pub loop-i-preserved : goal.loop-i-preserved
 loop-i-preserved c =
-    let a = (goal.at.loop-i-preserved c).After-constant_row-limit in
+    let a = (goal.at.loop-i-preserved c).After-constant_row in
     let d = dd a in
     let s = st d in
-    let (v, made, same) = reports-made _ _ _ (limits (goal.at.Start s).Start (asked a)) (reported a) c.if-limit-ne0.false in
+    let (v, made, same) = told-made _ _ _ tt (limits (goal.at.Start s).Start (asked a)) (reported a) c.in_ok-constant_row.was in
     simp (to_z-of_z {w = w64} s.ranges.n) (
       all-long a,
       omega (arith, below d),

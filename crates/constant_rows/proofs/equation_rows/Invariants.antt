@@ -1,7 +1,7 @@
 -- `constant_rows::equation_rows` meets its contract. The invariant: the rows of the first i equations are made and stand in their places.
 -- Assumes nothing.
 use mathlib.Core.Path.{◌≡◌}
-use Prim.Native.Nat.{◌*◌, ◌-◌, ◌≤◌}
+use Prim.Native.Nat.{◌*◌, ◌≤◌}
 use lib.ListN.{length, take}
 use Rattle.rules.specs.Stores.{rows_of}
 use Rattle.stores.specs.Validity.{the_sizes_of}
@@ -15,6 +15,3 @@ abbrev pub invariant-loop-i : goal.invariant-loop-i
 invariant-loop-i l =
     (length l.part ≡ l.equations * list_columns) × (l.i ≤ l.equations)
     × (each (row_at (the_sizes_of l.sizes) l.last) (take l.i (at_index l.n (rows_of l.equations l.rows))) ≡ fine (matrix_rows (the_columns_of l.sizes.m l.last) l.i l.part))
-
-abbrev pub decreases-loop-i : goal.decreases-loop-i
-decreases-loop-i l = l.equations - l.i

@@ -27,10 +27,11 @@ use Rattle.constant_rows.specs.ListLengths.{list_columns}
 use Rattle.constant_rows.specs.Matrices.{matrix_rows, Reports}
 use Rattle.constant_rows.specs.RowLimits.{Limits, row-limits, each-limits}
 use Rattle.constant_rows.specs.ConstantStores.{row_at, groups, length-groups, group_at, group-next, group-stop}
-use Rattle.constant_rows.specs.ConstantStores.{part_length, l-near, span-few, reports-made, reports-passed, made-reports}
-use Rattle.constant_rows.specs.ConstantStores.{passed-reports}
+use Rattle.constant_rows.specs.ConstantStores.{part_length, l-near, span-few, told-made, told-passed, made-reports}
+use Rattle.constant_rows.specs.ConstantStores.{refused-reports}
+use Rattle.refusals.specs.Refusals.{number_of, refusal_in}
 use Rattle.constant_rows.proofs.indexed_rows.Goals as goal
-use Rattle.constant_rows.proofs.indexed_rows.Goals.{After-equation_rows-limit, After-struct_told-1, In-loop-k, Start}
+use Rattle.constant_rows.proofs.indexed_rows.Goals.{After-equation_rows, After-struct_told-1, In-loop-k, Start}
 
 module _ (s : Start) where
   abbrev z : Stores.Sizes
@@ -169,9 +170,9 @@ overflow_cast-k c = let d = (goal.at.overflow_cast-k c).In-loop-k in sfits-size 
 pub overflow_sub-k : goal.overflow_sub-k
 overflow_sub-k c = let d = (goal.at.overflow_sub-k c).In-loop-k in simp (k-is d, to_z-of_z {w = w64} (l-fits (st d))) (n-fits d)
 
-pub equation_rows-limit-requires : goal.equation_rows-limit-requires
-equation_rows-limit-requires c =
-    let d = (goal.at.equation_rows-limit-requires c).In-loop-k in
+pub equation_rows-requires : goal.equation_rows-requires
+equation_rows-requires c =
+    let d = (goal.at.equation_rows-requires c).In-loop-k in
     let s = st d in
     simp (k-is d, to_z-of_z {w = w64} (l-fits (goal.at.Start s).Start), to_z-of_z {w = w64} (n-fits d)) record {
       t = s.requires.t;
@@ -179,18 +180,18 @@ equation_rows-limit-requires c =
     }
 
 -- What was made of them.
-module _ (a : After-equation_rows-limit) where
+module _ (a : After-equation_rows) where
   abbrev dd : In-loop-k
-  dd = (goal.at.After-equation_rows-limit a).In-loop-k
+  dd = (goal.at.After-equation_rows a).In-loop-k
 
   abbrev q : List ℤ
-  q = a.equation_rows-limit.new.part
+  q = a.equation_rows.new.part
 
   abbrev at : ℕ
   at = k dd * width dd
 
   q-long : length q ≡ length (take (at + width dd - at) (drop at (part dd)))
-  q-long = a.equation_rows-limit.auto.part
+  q-long = a.equation_rows.auto.part
 
   group-long : length q ≡ width dd
   group-long = q-long ∙ part_length at (width dd) (part dd) (room dd)
@@ -201,41 +202,35 @@ module _ (a : After-equation_rows-limit) where
   abbrev asked : List Relation
   asked = get_or (gs (st dd)) (k dd) []
 
-  reported : Reports (λ v. matrix_rows (columns (st dd)) (e (st dd)) q ≡ v) (each (row_at (z (st dd)) (N (st dd))) asked) a.equation_rows-limit.result
+  reported : Reports (λ v. matrix_rows (columns (st dd)) (e (st dd)) q ≡ v) (each (row_at (z (st dd)) (N (st dd))) asked) (refusal_in a.equation_rows.result)
   unfolding the_sizes_of
   reported =
-      subst (λ x. Reports (λ v. matrix_rows (columns (st dd)) (e (st dd)) q ≡ v) (each (row_at (z (st dd)) (N (st dd))) x) a.equation_rows-limit.result)
+      subst (λ x. Reports (λ v. matrix_rows (columns (st dd)) (e (st dd)) q ≡ v) (each (row_at (z (st dd)) (N (st dd))) x) (refusal_in a.equation_rows.result))
       (sym (group_at (z (st dd)) (N (st dd)) (rows_of (e (st dd)) (rows (st dd))) (k dd) (subst (λ j. k dd < j) (indices-are (t dd)) (below dd))))
-      (simp (k-is dd, to_z-of_z {w = w64} (l-fits (st dd)), to_z-of_z {w = w64} (n-fits dd)) at a.equation_rows-limit.ensures)
+      (simp (k-is dd, to_z-of_z {w = w64} (l-fits (st dd)), to_z-of_z {w = w64} (n-fits dd)) at a.equation_rows.ensures)
 
   limited : Limits (each (row_at (z (st dd)) (N (st dd))) asked)
   limited = each-limits (row_at (z (st dd)) (N (st dd))) (limits (st dd)) asked
 
-pub shape_of-part-then-limit-ne0 : goal.shape_of-part-then-limit-ne0
-shape_of-part-then-limit-ne0 c = let a = (goal.at.shape_of-part-then-limit-ne0 c).After-equation_rows-limit in all-long a ∙ sym (long (t (dd a)))
+pub shape_of-part-in_err-equation_rows : goal.shape_of-part-in_err-equation_rows
+shape_of-part-in_err-equation_rows c = let a = (goal.at.shape_of-part-in_err-equation_rows c).After-equation_rows in all-long a ∙ sym (long (t (dd a)))
 
-pub returns-then-limit-ne0 : goal.returns-then-limit-ne0
+pub returns-in_err-equation_rows : goal.returns-in_err-equation_rows
 unfolding groups
-returns-then-limit-ne0 c =
-    let a = (goal.at.returns-then-limit-ne0 c).After-equation_rows-limit in
+returns-in_err-equation_rows c =
+    let a = (goal.at.returns-in_err-equation_rows c).After-equation_rows in
     let d = dd a in
     let s = st d in
-    passed-reports _ (each (row_at (z (goal.at.Start s).Start) (N (goal.at.Start s).Start)) (flatten (gs (goal.at.Start s).Start))) _
-    (group-stop (row_at (z (goal.at.Start s).Start) (N (goal.at.Start s).Start)) (columns (goal.at.Start s).Start) (gs (goal.at.Start s).Start) (k d) a.equation_rows-limit.result _
-    (here d) d.loop-k.invariant.2 (reports-passed _ _ _ (reported a) c.if-limit-ne0.true))
-
-pub overflow_add-k : goal.overflow_add-k
-overflow_add-k c = let d = dd (goal.at.overflow_add-k c).After-equation_rows-limit in omega (arith, below d, few-turns (t d))
-
-pub loop-k-smaller : goal.loop-k-smaller
-loop-k-smaller c = let d = dd (goal.at.loop-k-smaller c).After-equation_rows-limit in omega (arith, below d)
+    refused-reports _ (each (row_at (z (goal.at.Start s).Start) (N (goal.at.Start s).Start)) (flatten (gs (goal.at.Start s).Start))) _ c.in_err-equation_rows.field-0.0 c.from_residual.ensures.1
+    (group-stop (row_at (z (goal.at.Start s).Start) (N (goal.at.Start s).Start)) (columns (goal.at.Start s).Start) (gs (goal.at.Start s).Start) (k d) (number_of c.in_err-equation_rows.field-0.0) _
+    (here d) d.loop-k.invariant.2 (told-passed _ _ _ c.in_err-equation_rows.field-0.0 (reported a) c.in_err-equation_rows.was))
 
 pub loop-k-preserved : goal.loop-k-preserved
 loop-k-preserved c =
-    let a = (goal.at.loop-k-preserved c).After-equation_rows-limit in
+    let a = (goal.at.loop-k-preserved c).After-equation_rows in
     let d = dd a in
     let s = st d in
-    let (v, made, same) = reports-made _ _ _ (limited a) (reported a) c.if-limit-ne0.false in (
+    let (v, made, same) = told-made _ _ _ tt (limited a) (reported a) c.in_ok-equation_rows.was in (
       all-long a,
       omega (arith, below d),
       group-next (row_at (z (goal.at.Start s).Start) (N (goal.at.Start s).Start)) (columns (goal.at.Start s).Start) (gs (goal.at.Start s).Start) (k d) (e (goal.at.Start s).Start) (at a + width d - at a) (part d) (q a)

@@ -2,7 +2,7 @@
 -- their places. Assumes nothing.
 use mathlib.Core.Path.{◌≡◌}
 use mathlib.Core.List.{flatten}
-use Prim.Native.Nat.{◌*◌, ◌-◌, ◌≤◌}
+use Prim.Native.Nat.{◌*◌, ◌≤◌}
 use lib.ListN.{length, take}
 use Rattle.rules.specs.Stores.{rows_of}
 use Rattle.stores.specs.Validity.{the_sizes_of}
@@ -16,6 +16,3 @@ invariant-loop-k l =
     (length l.part ≡ l.indices * l.width) × (l.k ≤ l.indices)
     × (each (row_at (the_sizes_of l.sizes) l.last) (flatten (take l.k (groups (the_sizes_of l.sizes) l.last (rows_of l.sizes.equations l.rows))))
     ≡ fine (matrix_rows (the_columns_of l.sizes.m l.last) (l.k * l.sizes.equations) l.part))
-
-abbrev pub decreases-loop-k : goal.decreases-loop-k
-decreases-loop-k l = l.indices - l.k

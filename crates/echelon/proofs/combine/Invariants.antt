@@ -2,7 +2,6 @@
 -- are as they were.
 -- Assumes nothing.
 use mathlib.Core.Path.{◌≡◌}
-use Prim.Native.Nat.{◌-◌}
 use lib.ListN.{length, drop}
 use Rattle.lists.specs.Taken.{Overwritten}
 use Rattle.echelon.specs.Eliminated.{combined}
@@ -12,6 +11,3 @@ abbrev pub invariant-loop-j : goal.invariant-loop-j
 invariant-loop-j l =
     Overwritten (length l.initial.row) (combined (record { g = l.g; h = l.h }) l.initial.row l.pivot) l.row l.j
     × (drop l.j l.row ≡ drop l.j l.initial.row)
-
-abbrev pub decreases-loop-j : goal.decreases-loop-j
-decreases-loop-j l = length l.initial.row - l.j

@@ -2,7 +2,6 @@
 -- stands behind them, and the rows from row i on are as they were given.
 -- Assumes nothing.
 use mathlib.Core.Path.{◌≡◌, refl, sym, ◌∙◌, ap}
-use mathlib.Core.Bool.{true, false}
 use mathlib.Core.List.{List}
 use Prim.Native.Nat.{ℕ}
 use native.Mathlib.Omega.{arith}
@@ -15,8 +14,11 @@ use Rattle.echelon.specs.Eliminated.{reduce_all_of}
 use Rattle.echelon.specs.Eliminated as Elimination
 use Rattle.echelon.specs.MatrixTurns.{pivots_in, row_at, turn-first, turn_inside, turn-row, turn-room, turn-next, turn_last}
 use Rattle.echelon.specs.MatrixTurns.{turn-passed, settled-count}
-use Rattle.constant_rows.specs.ConstantStores.{made-reports, passed-reports}
-use Rattle.echelon.specs.SoundRows.{judged}
+use Rattle.std.proofs.Common.{Ok, Err}
+use Rattle.refusals.specs.declared.Refusal.{Refusal}
+use Rattle.refusals.specs.Refusals.{number_of}
+use Rattle.constant_rows.specs.Matrices.{judged_with}
+use Rattle.constant_rows.specs.ConstantStores.{told-of, told-refused}
 use Rattle.echelon.proofs.eliminate.Goals as goal
 use Rattle.echelon.proofs.eliminate.Goals.{After-reduced_row, At-loop-i, In-loop-i, Start}
 
@@ -63,11 +65,11 @@ module _ (c : After-reduced_row) where
   abbrev all : List Elimination.Pivot
   all = pivots_in (n at) (take (w at) (columns at)) (matrix at)
 
-  fine-row : c.reduced_row.result ≡ true → reduce_all_of all (row_at (n at) (i at) (matrix at)) ≡ fine row
-  fine-row e = c.reduced_row.ensures.matrix_value ∙ ap (λ t. judged t row) e
+  fine-row : {u : Unit {0}} → c.reduced_row.result ≡ Ok u → reduce_all_of all (row_at (n at) (i at) (matrix at)) ≡ fine row
+  fine-row e = c.reduced_row.ensures.matrix_value ∙ ap (λ t. judged_with t row) e
 
-  passed-row : c.reduced_row.result ≡ false → reduce_all_of all (row_at (n at) (i at) (matrix at)) ≡ passed 8
-  passed-row e = c.reduced_row.ensures.matrix_value ∙ ap (λ t. judged t row) e
+  passed-row : {r : Refusal} → c.reduced_row.result ≡ Err r → reduce_all_of all (row_at (n at) (i at) (matrix at)) ≡ passed (number_of r)
+  passed-row e = c.reduced_row.ensures.matrix_value ∙ ap (λ t. judged_with t row) e
 
 pub loop-i-init : goal.loop-i-init
 loop-i-init c = (turn-first c.requires _ refl, search rules)
@@ -92,15 +94,16 @@ reduced_row-requires c =
       list_columns_in_bounds = (omega (arith, few at, places.1), t.sound, at.loop-i.invariant.1);
     }
 
-pub shape_of-matrix-then-not-reduced_row : goal.shape_of-matrix-then-not-reduced_row
-shape_of-matrix-then-not-reduced_row c = (at (goal.at.shape_of-matrix-then-not-reduced_row c).After-reduced_row).loop-i.invariant.0.kept.same_length
+pub shape_of-matrix-in_err-reduced_row : goal.shape_of-matrix-in_err-reduced_row
+shape_of-matrix-in_err-reduced_row c = (at (goal.at.shape_of-matrix-in_err-reduced_row c).After-reduced_row).loop-i.invariant.0.kept.same_length
 
-pub returns-then-not-reduced_row : goal.returns-then-not-reduced_row
-returns-then-not-reduced_row c =
-    let e = (goal.at.returns-then-not-reduced_row c).After-reduced_row in
+pub returns-in_err-reduced_row : goal.returns-in_err-reduced_row
+returns-in_err-reduced_row c =
+    let e = (goal.at.returns-in_err-reduced_row c).After-reduced_row in
     let t = (at e).loop-i.invariant.0 in
-    let failed : e.reduced_row.result ≡ false = c.if-not-reduced_row.true in record {
-      reports = passed-reports _ _ 8 (turn-passed (start (at e)).requires t (inside e).loop-i-test.true (passed-row e failed));
+    let r = c.in_err-reduced_row.field-0.0 in
+    let failed : e.reduced_row.result ≡ Err r = c.in_err-reduced_row.was in record {
+      reports = told-refused _ _ _ r c.from_residual.ensures.1 (turn-passed (start (at e)).requires t (inside e).loop-i-test.true (passed-row e failed));
       kept = t.kept;
     }
 
@@ -120,7 +123,7 @@ settle-settled-requires c =
     let pre = (start (at e)).requires in
     let t = (at e).loop-i.invariant.0 in
     let taken = (inside e).loop-i-test.true in
-    let held : e.reduced_row.result ≡ true = c.if-not-reduced_row.false in record {
+    let held : e.reduced_row.result ≡ Ok c.in_ok-reduced_row.field-0 = c.in_ok-reduced_row.was in record {
       row_len_bound = (omega (arith, row-long e, pre.0), (turn_inside pre t taken).1);
       columns_len = (t.full, turn-room pre t taken (row e) (fine-row e held));
     }
@@ -128,7 +131,7 @@ settle-settled-requires c =
 pub loop-i-preserved : goal.loop-i-preserved
 loop-i-preserved c =
     let e = (goal.at.loop-i-preserved c).After-reduced_row in
-    let held : e.reduced_row.result ≡ true = c.if-not-reduced_row.false in (
+    let held : e.reduced_row.result ≡ Ok c.in_ok-reduced_row.field-0 = c.in_ok-reduced_row.was in (
       rw (c.settle-settled.ensures.matrix_after, c.settle-settled.ensures.value.0, c.settle-settled.ensures.value.1)
           (turn-next (start (at e)).requires (at e).loop-i.invariant.0 (inside e).loop-i-test.true (row e) (fine-row e held)),
       e.reduced_row.ensures.numbers_len,
@@ -141,6 +144,6 @@ pub returns : goal.returns
 returns c =
     let pre = (start (goal.at.returns c).At-loop-i).requires in
     let t = c.loop-i.invariant.0 in record {
-      reports = made-reports _ _ _ (turn_last pre t c.loop-i-test.false) (sym (settled-count pre t), t.few, t.full, refl);
+      reports = told-of _ _ _ _ (turn_last pre t c.loop-i-test.false) (sym (settled-count pre t), t.few, t.full, refl);
       kept = t.kept;
     }

@@ -3,7 +3,6 @@
 -- Assumes nothing.
 use mathlib.Core.Path.{◌≡◌, refl, sym, ◌∙◌, ap}
 use mathlib.Core.Logic.{◌≢◌}
-use mathlib.Core.Bool.{true, false}
 use mathlib.Core.List.{List, ◌∷◌}
 use Prim.Native.Nat.{ℕ, ◌+◌, ◌*◌, ◌-◌, ◌≤◌}
 use native.Mathlib.Omega.{arith}
@@ -13,7 +12,10 @@ use Rattle.echelon.specs.Eliminated.{Pivot, at, pivot_of, reduce_by_of, reduce_a
 use Rattle.echelon.specs.MatrixTurns.{pivots_in, pivot_at, pivots-next, length-pivots}
 use Rattle.echelon.specs.RowWork.{reduce-next, reduce-passed}
 use Rattle.constant_rows.specs.ListLengths.{list_columns}
-use Rattle.echelon.specs.SoundRows.{judged, sound-pivot, reduce_by-small}
+use Rattle.std.proofs.Common.{Ok, Err}
+use Rattle.constant_rows.specs.Matrices.{judged_with}
+use Rattle.constant_rows.specs.ConstantStores.{judged-refused}
+use Rattle.echelon.specs.SoundRows.{sound-pivot, reduce_by-small}
 use Rattle.echelon.proofs.reduce_all.Goals as goal
 use Rattle.echelon.proofs.reduce_all.Goals.{After-reduce_by, In-loop-k, Start}
 
@@ -65,7 +67,7 @@ module _ (c : After-reduce_by) where
   abbrev row' : List ℤ
   row' = c.reduce_by.new.row
 
-  reduced : reduce_by_of (pivot turn) (row turn) ≡ judged c.reduce_by.result row'
+  reduced : reduce_by_of (pivot turn) (row turn) ≡ judged_with c.reduce_by.result row'
   reduced =
       ap (λ l. reduce_by_of (record { numbers = l; column = get_or (columns turn) (k turn) 0 }) (row turn)) (sym (part turn))
       ∙ c.reduce_by.ensures
@@ -107,19 +109,20 @@ reduce_by-requires c =
       );
     }
 
-pub returns-then-not-reduce_by : goal.returns-then-not-reduce_by
-returns-then-not-reduce_by c =
-    let e = (goal.at.returns-then-not-reduce_by c).After-reduce_by in
-    let failed : e.reduce_by.result ≡ false = c.if-not-reduce_by.true in
+pub returns-in_err-reduce_by : goal.returns-in_err-reduce_by
+returns-in_err-reduce_by c =
+    let e = (goal.at.returns-in_err-reduce_by c).After-reduce_by in
+    let r = c.in_err-reduce_by.field-0.0 in
+    let failed : e.reduce_by.result ≡ Err r = c.in_err-reduce_by.was in
     from-here e ∙ reduce-passed (pivot (turn e)) (drop (k (turn e) + 1) (ps (turn e))) (row (turn e)) (row' e)
-    (reduced e ∙ ap (λ t. judged t (row' e)) failed)
+    (reduced e ∙ ap (λ t. judged_with t (row' e)) failed) ∙ sym (judged-refused _ r (row' e) c.from_residual.ensures.1)
 
 pub loop-k-preserved : goal.loop-k-preserved
 loop-k-preserved c =
     let e = (goal.at.loop-k-preserved c).After-reduce_by in
     let t = turn e in
-    let passed : e.reduce_by.result ≡ true = c.if-not-reduce_by.false in
-    let made = reduced e ∙ ap (λ u. judged u (row' e)) passed in (
+    let passed : e.reduce_by.result ≡ Ok c.in_ok-reduce_by.field-0 = c.in_ok-reduce_by.was in
+    let made = reduced e ∙ ap (λ u. judged_with u (row' e)) passed in (
       omega arith,
       omega (arith, t.loop-k.invariant.1),
       reduce_by-small (pivot t) (row t) (row' e) t.loop-k.invariant.2 made,

@@ -2,7 +2,7 @@
 -- of them make of the row that was given.
 -- Assumes nothing.
 use mathlib.Core.Path.{◌≡◌}
-use Prim.Native.Nat.{◌-◌, ◌≤◌}
+use Prim.Native.Nat.{◌≤◌}
 use lib.Dec.{T}
 use lib.ListN.{length, drop}
 use Rattle.lists.specs.Tests.{every}
@@ -15,6 +15,3 @@ abbrev pub invariant-loop-k : goal.invariant-loop-k
 invariant-loop-k l =
     (l.k ≤ length l.columns) × (length l.row ≡ length l.initial.row) × T (every small l.row)
     × (reduce_all_of (pivots_in (length l.initial.row) l.columns l.matrix) l.initial.row ≡ reduce_all_of (drop l.k (pivots_in (length l.initial.row) l.columns l.matrix)) l.row)
-
-abbrev pub decreases-loop-k : goal.decreases-loop-k
-decreases-loop-k l = length l.columns - l.k

@@ -16,7 +16,10 @@ use Rattle.integers.specs.Ranges.{sfits-size}
 use Rattle.polynomials.specs.Content.{Below, read_back, small_at, zero_bits, nonzero-bits}
 use Rattle.rules.specs.Limits.{bound}
 use Rattle.echelon.specs.RowWork.{factors-bound, combined-below, reduce-zero, reduce-nonzero}
-use Rattle.echelon.specs.Eliminated.{Factors, the_factors_of, combined, whole}
+use Rattle.std.specs.Prelude.{Bool, true, false}
+use Rattle.lists.specs.Tests.{every}
+use Rattle.rules.specs.Limits.{small}
+use Rattle.echelon.specs.Eliminated.{Factors, the_factors_of, combined, whole, reduce_by_of}
 use Rattle.echelon.specs.SoundRows.{judged}
 use Rattle.echelon.proofs.reduce_by.Goals as goal
 use Rattle.echelon.proofs.reduce_by.Goals.{After-combine, After-factors_of-arg-1, After-factors_of-x, After-struct_told-2-1, Start}
@@ -113,11 +116,18 @@ divide_by_content-requires c =
     subst (Below (2 ^ 63)) (sym (combined-is d))
     (combined-below (x (made d)) (rowₛ d) (pivotₛ d) sizes.0 (g-small (made d)) (h-small (made d)) sizes.1 sizes.2)
 
+judged-as : (d : After-combine) (q : List ℤ) → q ≡ whole d.combine.new.row → (t : Bool) → every small q ≡ t
+    → reduce_by_of (record { numbers = pivotₛ d; column = (start (read (made d))).args.column }) (rowₛ d) ≡ judged t q
+judged-as d q w t e =
+    reduce-nonzero (pivotₛ d) (rowₛ d) (start (read (made d))).args.column (nonzero-bits (read (made d)).if-b-eq0.false) q (w ∙ ap whole (combined-is d))
+    ∙ ap (λ u. judged u q) e
+
+pub returns-then-not-all_small : goal.returns-then-not-all_small
+returns-then-not-all_small c =
+    judged-as (goal.at.returns-then-not-all_small c).After-combine c.divide_by_content.new.row c.divide_by_content.ensures false
+    (sym c.all_small.ensures ∙ c.if-not-all_small.true)
+
 pub returns : goal.returns
 returns c =
-    let d = (goal.at.returns c).After-combine in
-    let e = read (made d) in
-    let s = start e in
-    reduce-nonzero (pivotₛ d) (rowₛ d) s.args.column (nonzero-bits e.if-b-eq0.false) c.divide_by_content.new.row
-    (c.divide_by_content.ensures ∙ ap whole (combined-is d))
-    ∙ ap (λ t. judged t c.divide_by_content.new.row) (sym c.all_small.ensures)
+    judged-as (goal.at.returns c).After-combine c.divide_by_content.new.row c.divide_by_content.ensures true
+    (sym c.all_small.ensures ∙ c.if-not-all_small.false)

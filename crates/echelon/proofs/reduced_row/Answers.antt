@@ -10,7 +10,7 @@ use lib.Seq.{paste, length-take-le, take_at}
 use Rattle.lists.specs.Pasted.{paste-first}
 use Rattle.echelon.specs.MatrixTurns.{row_at}
 use Rattle.constant_rows.specs.ListLengths.{list_columns}
-use Rattle.echelon.specs.SoundRows.{judged}
+use Rattle.constant_rows.specs.Matrices.{judged_with}
 use Rattle.echelon.proofs.reduced_row.Goals as goal
 use Rattle.echelon.proofs.reduced_row.Goals.{After-save, Start}
 
@@ -66,6 +66,6 @@ returns c =
     let e = (goal.at.returns c).After-save in
     let made = c.reduce_all in
     let long : length made.new.row ≡ n e = made.auto.row ∙ ap length (loaded e) ∙ row-long e in record {
-      matrix_value = rw (loaded e, row-long e) at made.ensures ∙ ap (judged made.result) (sym (take_at made.new.row (drop (n e) (copied e)) (n e) long));
+      matrix_value = rw (loaded e, row-long e) at made.ensures ∙ ap (judged_with made.result) (sym (take_at made.new.row (drop (n e) (copied e)) (n e) long));
       numbers_len = omega (arith, length-append made.new.row (drop (n e) (copied e)), length-drop (n e) (copied e), copied-long e, (start e).requires.n_le_list_columns.0, long);
     }

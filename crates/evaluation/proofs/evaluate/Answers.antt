@@ -1,125 +1,99 @@
--- `evaluation::evaluate` meets its contract. The invariant: the value is that of the coefficients from i on. The measure is i.
+-- `evaluation::evaluate` meets its contract. The invariant: what is left is a front of p, and the value is that of the coefficients behind it.
 -- Assumes nothing.
-use mathlib.Core.Path.{◌≡◌, sym, ◌∙◌, ap, subst}
-use mathlib.Core.List.{List}
-use mathlib.Core.Option.{some}
-use Prim.Native.Nat.{ℕ, ◌+◌, ◌*◌, ◌-◌, ◌≤◌, ◌<◌}
-use native.Mathlib.Nat.{le_trans, le_of_eq, mul-le-mul}
-use native.Mathlib.Omega.{arith}
+use Rattle.std.specs.Prelude.{◌≡◌, ◌≤◌, ◌<◌, ◌+◌, ◌*◌, List, ℤ, pos, nat_abs, ◌+ℤ◌, ◌*ℤ◌, length, drop, get_or}
+use Rattle.std.proofs.Common.{sym, ◌∙◌, ap, subst, arith, le_trans, le_of_eq, mul-le-mul, SFits, of_z, to_z, to_z-of_z}
+use Rattle.std.proofs.Math.Option.{some}
+use Rattle.std.specs.Int.{w64}
 use lib.Dec.{lit<}
-use lib.IntN.{ℤ, pos, nat_abs, ◌+ℤ◌, ◌*ℤ◌}
-use lib.ListN.{length, drop, get_or}
-use lib.Seq.{drop-length}
-use mir.Syntax.{w64}
-use mir.Val.{SFits, of_z, to_z}
-use mir.Facts.{to_z-of_z}
 use Rattle.integers.specs.Ranges.{sfits-size}
 use Rattle.algebra.specs.Integers.{nat_abs-+ℤ, nat_abs-*ℤ}
 use Rattle.rules.specs.Limits.{bound}
+use Rattle.lists.specs.Taken.{length_none}
 use Rattle.polynomials.specs.Content.{small_at}
-use Rattle.evaluation.specs.Evaluated.{value_limit, within, formed_of, farthest, horner-next, horner-last, horner-past, within-yes, within-no, horner}
+use Rattle.evaluation.specs.Evaluated.{Front, front-less, front-whole, value_limit, within, farthest, horner, horner-next, horner-last, horner-past, within-yes, within-no}
 use Rattle.evaluation.proofs.evaluate.Goals as goal
-use Rattle.evaluation.proofs.evaluate.Goals.{After-magnitude, At-loop-i, Start}
+use Rattle.evaluation.proofs.evaluate.Goals.{In-Some-a}
 
--- A turn: coefficient i, one before the loop's place, is joined.
-module _ (c : At-loop-i) where
-  abbrev s : Start
-  s = c.before.before.before
-
+-- A turn: the highest coefficient that is left is joined.
+module _ (c : In-Some-a) where
   abbrev p : List ℤ
-  p = s.args.p.now
+  p = c.args.p.now
 
   abbrev n : ℤ
-  n = s.args.n
+  n = c.args.n
 
-  abbrev i : ℕ
-  i = c.loop-i.i - 1
+  abbrev a : ℤ
+  a = c.in-Some-a.a.now
+
+  abbrev left : List ℤ
+  left = c.next.new.self.iter.rest.now
 
   abbrev value : ℤ
-  value = to_z w64 c.loop-i.value-bits
+  value = to_z w64 c.loop-a.value-bits
 
   abbrev next : ℤ
-  next = get_or p i (pos 0) +ℤ n *ℤ value
+  next = a +ℤ n *ℤ value
 
-  fits-n : SFits w64 n
-  fits-n = s.ranges.n
+  step : Front p left × (length c.loop-a.a-iterator.iter.rest.now ≡ length left + 1) × (length left < length p) × (a ≡ get_or p (length left) (pos 0))
+  step = front-less p c.loop-a.a-iterator.iter.rest.now left a c.loop-a.invariant.0 c.in-Some-a.ensures.steps
 
-  value-is : horner n (drop c.loop-i.i p) ≡ some value
-  value-is = rw (to_z-of_z fits-n) at c.loop-i.invariant.2
+  small-a : nat_abs a ≤ bound
+  small-a = rw step.3 (small_at p c.requires.0 (length left))
 
   product-size : nat_abs (n *ℤ value) ≤ farthest * value_limit
-  product-size = le_trans (le_of_eq (nat_abs-*ℤ n value)) (mul-le-mul s.requires.1 c.loop-i.invariant.1)
+  product-size = le_trans (le_of_eq (nat_abs-*ℤ n value)) (mul-le-mul c.requires.1 c.loop-a.invariant.1)
 
   product-fits : SFits w64 (n *ℤ value)
   product-fits = sfits-size (n *ℤ value) product-size (lit< tt)
 
-  coefficient-fits : SFits w64 (get_or p i (pos 0))
-  coefficient-fits = sfits-size (get_or p i (pos 0)) (small_at p s.requires.0 i) (lit< tt)
-
   next_fits : SFits w64 next
   next_fits =
-      sfits-size next {k = farthest * value_limit + bound}
-      (omega (arith, nat_abs-+ℤ (get_or p i (pos 0)) (n *ℤ value), product-size, small_at p s.requires.0 i)) (lit< tt)
+      sfits-size next {k = farthest * value_limit + bound} (omega (arith, nat_abs-+ℤ a (n *ℤ value), product-size, small-a)) (lit< tt)
 
-  next-is : to_z w64 (of_z w64 (get_or p i (pos 0))) +ℤ to_z w64 (of_z w64 (to_z w64 (of_z w64 n) *ℤ value)) ≡ next
-  next-is = simp (to_z-of_z fits-n, to_z-of_z product-fits, to_z-of_z coefficient-fits)
+  next-is : to_z w64 (of_z w64 a) +ℤ to_z w64 (of_z w64 (to_z w64 (of_z w64 n) *ℤ value)) ≡ next
+  next-is = simp (to_z-of_z c.ranges.n, to_z-of_z product-fits, to_z-of_z (sfits-size a small-a (lit< tt)))
 
-  next-value : 0 < c.loop-i.i → horner n (drop i p) ≡ within next
-  next-value h =
-      let e : c.loop-i.i ≡ i + 1 = omega arith in
-      horner-next n p i value (omega (arith, c.loop-i.invariant.0)) (subst (λ k. horner n (drop k p) ≡ some value) e value-is)
-
-size_is : (c : After-magnitude) → c.magnitude.result ≡ nat_abs (next c.before.before.before)
-size_is c = simp (next-is c.before.before.before, to_z-of_z (next_fits c.before.before.before)) at c.magnitude.ensures
+  next-value : horner n (drop (length left) p) ≡ within next
+  next-value =
+      let value-is = rw (to_z-of_z c.ranges.n) at c.loop-a.invariant.2 in
+      horner-next n p (length left) value step.2 (subst (λ k. horner n (drop k p) ≡ some value) step.1 value-is)
+      ∙ ap (λ x. within (x +ℤ n *ℤ value)) (sym step.3)
 
 -- There is no coefficient.
-pub returns-then-p-eq0 : goal.returns-then-p-eq0
-unfolding formed_of horner
-returns-then-p-eq0 c =
-    let a = c.args in
-    sym (subst (λ k. horner a.n (drop k a.p.now) ≡ some (pos 0)) c.if-p-eq0.true (ap (horner a.n) (drop-length a.p.now)))
+pub returns-in_default : goal.returns-in_default
+unfolding horner
+returns-in_default c = sym (ap (horner c.args.n) (length_none c.args.p.now c.in_default.ensures.cases))
 
 -- The highest coefficient is the value to begin with.
-pub loop-i-init : goal.loop-i-init
-loop-i-init c =
-    let q = c.args.p.now in
-    let top = length q - 1 in
-    let size = small_at q c.requires.0 top in
-    let fits : SFits w64 (get_or q top (pos 0)) = sfits-size (get_or q top (pos 0)) size (lit< tt) in (
-      omega arith,
-      rw (to_z-of_z fits) (omega (arith, size)),
-      rw (to_z-of_z fits) (horner-last (to_z w64 (of_z w64 c.args.n)) q top (omega (arith, c.if-p-eq0.false)) (omega (arith, size))),
-    )
-
-pub overflow_mul-value : goal.overflow_mul-value
-overflow_mul-value c = rw (to_z-of_z (fits-n c.before.before)) (product-fits c.before.before)
+pub loop-a-init : goal.loop-a-init
+loop-a-init c =
+    let p = c.args.p.now in
+    let lower = c.in-Some.lower.now in
+    let step = front-less p p lower c.in-Some.top.now (front-whole p) c.in-Some.ensures.cases.0 in
+    let size : nat_abs c.in-Some.top.now ≤ bound = rw step.3 (small_at p c.requires.0 (length lower)) in
+    let fits : SFits w64 c.in-Some.top.now = sfits-size c.in-Some.top.now size (lit< tt) in
+    let same : c.into_iter-a-iterator.result.iter.rest.now ≡ lower = cc in
+    let last = horner-last (to_z w64 (of_z w64 c.args.n)) p (length lower) (sym step.1) (rw (← step.3) (omega (arith, size))) in
+    rw (to_z-of_z fits, same) (step.0, omega (arith, size), last ∙ ap some (sym step.3))
 
 pub overflow_add-value : goal.overflow_add-value
-overflow_add-value c = rw (next-is c.before.before) (next_fits c.before.before)
+overflow_add-value c = let d = (goal.at.overflow_add-value c).In-Some-a in rw (next-is d) (next_fits d)
 
 pub returns-then-magnitude-gt-LIMIT : goal.returns-then-magnitude-gt-LIMIT
-unfolding formed_of
 returns-then-magnitude-gt-LIMIT c =
-    let head = c.before.before.before.before in
-    let here = next-value head c.loop-i-test.true in
-    let past : value_limit < nat_abs (next head) = omega (arith, size_is c.before, c.if-magnitude-gt-LIMIT.true) in
-    sym (horner-past (n head) (p head) (i head) (here ∙ within-no (next head) past))
+    let d = (goal.at.returns-then-magnitude-gt-LIMIT c).In-Some-a in
+    let size = simp (next-is d, to_z-of_z (next_fits d)) at c.magnitude.ensures in
+    let past : value_limit < nat_abs (next d) = omega (arith, size, c.if-magnitude-gt-LIMIT.true) in
+    sym (horner-past (n d) (p d) (length (left d)) (next-value d ∙ within-no (next d) past))
 
-pub loop-i-preserved : goal.loop-i-preserved
-loop-i-preserved c =
-    let head = c.before.before.before.before in
-    let fits = next_fits head in
-    let here = next-value head c.loop-i-test.true in
-    let size : nat_abs (next head) ≤ value_limit = omega (arith, size_is c.before, c.if-magnitude-gt-LIMIT.false) in
-    simp (next-is head) (
-      omega (arith, head.loop-i.invariant.0),
-      rw (to_z-of_z fits) size,
-      simp (to_z-of_z (fits-n head), to_z-of_z fits) (here ∙ within-yes (next head) size),
+pub loop-a-preserved : goal.loop-a-preserved
+loop-a-preserved c =
+    let d = (goal.at.loop-a-preserved c).In-Some-a in
+    let fits = next_fits d in
+    let size = simp (next-is d, to_z-of_z fits) at c.magnitude.ensures in
+    let near : nat_abs (next d) ≤ value_limit = omega (arith, size, c.if-magnitude-gt-LIMIT.false) in
+    simp (next-is d) (
+      (step d).0,
+      rw (to_z-of_z fits) near,
+      simp (to_z-of_z c.ranges.n, to_z-of_z fits) (next-value d ∙ within-yes (next d) near),
     )
-
-pub returns : goal.returns
-unfolding formed_of
-returns c =
-    let head = c.before in
-    let e : head.loop-i.i ≡ 0 = omega arith in
-    sym (subst (λ k. horner (n head) (drop k (p head)) ≡ some (value head)) e (value-is head))

@@ -1,5 +1,6 @@
 -- `exported_logs::exported_replay` meets its contract.
 -- Assumes nothing.
+use mathlib.Core.Path.{sym, ◌∙◌, ap}
 use mathlib.Core.List.{List}
 use Prim.Native.Nat.{ℕ}
 use native.Mathlib.Omega.{arith}
@@ -7,7 +8,8 @@ use lib.IntN.{ℤ}
 use Rattle.rules.specs.Stores.{Sizes}
 use Rattle.stores.specs.Validity.{the_sizes_of}
 use Rattle.runs.specs.CallLaws.{result_of, call_of}
-use Rattle.export_results.specs.Results.{kept}
+use Rattle.export_results.specs.Results.{kept, kept_or}
+use Rattle.exported_runs.specs.Runs.{run_numbers_of, refusal-same}
 use Rattle.exported_logs.specs.LogNumbers.{replay-short, replay-small, replay-done}
 use Rattle.exported_logs.proofs.exported_replay.Goals as goal
 use Rattle.exported_logs.proofs.exported_replay.Goals.{Start}
@@ -48,8 +50,15 @@ put_run-requires c =
     (omega arith, replay-small (z s) (count s) (steps s) (log s) (rows s) (relations s) c.replay-answer.ensures)
 
 pub returns : goal.returns
-unfolding call_of result_of
+unfolding call_of
 returns c =
     let s = (goal.at.returns c).Start in
-    replay-done (z s) (count s) (steps s) (log s) (rows s) (relations s) (result s) c.replay-answer.ensures
-    c.put_run.ensures (omega arith)
+    let same = refusal-same c.replay-answer.result in
+    (λ i. record {
+      refusal = (c.number_in.ensures ∙ sym same) i;
+      row_store = c.replay-answer.new.rows;
+      relation_store = c.replay-answer.new.relations;
+      result_store = c.put_run.new.res;
+    })
+    ∙ replay-done (z s) (count s) (steps s) (log s) (rows s) (relations s) (result s) c.replay-answer.ensures
+    (c.put_run.ensures ∙ ap (λ n. kept_or n (run_numbers_of (result_of c.replay-answer.result)) (result s)) (sym same)) (omega arith)

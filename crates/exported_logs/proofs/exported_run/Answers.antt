@@ -1,6 +1,10 @@
 -- `exported_logs::exported_run` meets its contract.
 -- Assumes nothing.
-use mathlib.Core.List.{List}
+use mathlib.Core.Path.{sym, ◌∙◌, ap}
+use mathlib.Core.List.{List, [], ◌∷◌, ◌++◌}
+use lib.IntN.{pos}
+use Rattle.export_results.specs.Results.{kept_or}
+use Rattle.exported_runs.specs.Runs.{run_numbers_of, refusal-same}
 use Prim.Native.Nat.{ℕ}
 use native.Mathlib.Omega.{arith}
 use lib.IntN.{ℤ}
@@ -45,8 +49,18 @@ put_logged-requires c =
     (omega arith, small.run, small.few-steps)
 
 pub returns : goal.returns
-unfolding call_of result_of logged_numbers
+unfolding call_of logged_numbers
 returns c =
     let s = (goal.at.returns c).Start in
-    logged-done (z s) (count s) (log s) (rows s) (relations s) (result s) c.run_logged-answer.ensures
-    c.put_logged.ensures (omega arith)
+    let answer = c.run_logged-answer.result in
+    let same = refusal-same answer.run in
+    (λ i. record {
+      refusal = (c.number_in.ensures ∙ sym same) i;
+      row_store = c.run_logged-answer.new.rows;
+      relation_store = c.run_logged-answer.new.relations;
+      log_store = c.run_logged-answer.new.log;
+      result_store = c.put_logged.new.res;
+    })
+    ∙ logged-done (z s) (count s) (log s) (rows s) (relations s) (result s) c.run_logged-answer.ensures
+    (c.put_logged.ensures
+    ∙ ap (λ n. kept_or n (run_numbers_of (result_of answer.run) ++ (pos answer.steps ∷ [])) (result s)) (sym same)) (omega arith)

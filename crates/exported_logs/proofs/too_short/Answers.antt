@@ -12,4 +12,4 @@ returns-then-steps-gt-MOST_STEPS c =
 pub returns : goal.returns
 returns c =
     let args = c.args in
-    c.check_stores.ensures ∙ short-system (the_sizes_of args.sizes) args.count args.steps c.if-steps-gt-MOST_STEPS.false
+    (c.number_in.ensures ∙ c.check_stores-checked.ensures) ∙ short-system (the_sizes_of args.sizes) args.count args.steps c.if-steps-gt-MOST_STEPS.false

@@ -1,22 +1,21 @@
--- `exported_records::record_refusal` meets its contract.
--- Assumes nothing.
-use mathlib.Core.Path.{sym, ap}
+-- `exported_records::record_refusal` meets its contract: what is found has the number 0.
+use Rattle.std.specs.Prelude.{◌≡◌}
+use Rattle.std.proofs.Common.{refl, sym, ap, ◌∙◌, Ok}
+use Rattle.records.specs.declared.Finding.{Finding}
+use Rattle.records.specs.declared.Finding.TheVariants.{Fits, Equation, Relation}
 use Rattle.records.specs.RecordAnswers.{answer_of}
 use Rattle.exported_records.specs.RecordNumbers.{record_refusal_of}
 use Rattle.exported_records.proofs.record_refusal.Goals as goal
 
-pub returns-in-Fits : goal.returns-in-Fits
+found : (f : Finding) → 0 ≡ record_refusal_of (answer_of (Ok f))
 unfolding record_refusal_of answer_of
-returns-in-Fits c = sym (ap (λ a. record_refusal_of (answer_of a)) c.in-Fits.is)
+found (Fits k) = refl
+found (Equation i n s) = refl
+found (Relation i n s) = refl
 
-pub returns-in-Equation : goal.returns-in-Equation
-unfolding record_refusal_of answer_of
-returns-in-Equation c = sym (ap (λ a. record_refusal_of (answer_of a)) c.in-Equation.is)
+pub returns-in-Ok : goal.returns-in-Ok
+returns-in-Ok c = found c.in-Ok.field-0 ∙ sym (ap (λ a. record_refusal_of (answer_of a)) c.in-Ok.is)
 
-pub returns-in-Relation : goal.returns-in-Relation
+pub returns-in-Err : goal.returns-in-Err
 unfolding record_refusal_of answer_of
-returns-in-Relation c = sym (ap (λ a. record_refusal_of (answer_of a)) c.in-Relation.is)
-
-pub returns-in-Refused : goal.returns-in-Refused
-unfolding record_refusal_of answer_of
-returns-in-Refused c = sym (ap (λ a. record_refusal_of (answer_of a)) c.in-Refused.is)
+returns-in-Err c = c.number.ensures ∙ sym (ap (λ a. record_refusal_of (answer_of a)) c.in-Err.is)

@@ -35,7 +35,7 @@ module _ (c : Start) where
 pub returns-then-res-lt3 : goal.returns-then-res-lt3
 returns-then-res-lt3 c =
     let s = (goal.at.returns-then-res-lt3 c).Start in
-    ap (λ n. unsolved n (work s) (result s)) c.check_stores.ensures
+    ap (λ n. unsolved n (work s) (result s)) (c.number_in.ensures ∙ c.check_stores-checked.ensures)
     ∙ solutions-short (z s) (count s) (rows s) (relations s) (work s) (result s) c.if-res-lt3.true
 
 pub put_solutions-requires : goal.put_solutions-requires

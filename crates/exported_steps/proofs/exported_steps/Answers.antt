@@ -7,11 +7,10 @@ use Prim.Native.Nat.{ℕ, ◌≤◌}
 use lib.IntN.{ℤ}
 use lib.ListN.{length}
 use Rattle.lists.specs.Taken.{none_before}
-use Rattle.runs.specs.CallLaws as RunLaws
 use Rattle.steps.specs.HeldCalls.{steps_call}
 use Rattle.steps.specs.StepCalls.{result_of, call_of}
 use Rattle.exported_steps.specs.StateNumbers.{state_need, held_in, counts_right_of, held-four}
-use Rattle.exported_steps.specs.StepNumbers.{kept_steps, SmallUnlessEarly, answer-small}
+use Rattle.exported_steps.specs.StepNumbers.{kept_steps, run-same, SmallUnlessEarly, answer-small}
 use Rattle.exported_steps.specs.StepNumbers.{steps-no-state, steps-negative, steps-short, steps-left}
 use Rattle.exported_steps.proofs.exported_steps.Goals as goal
 use Rattle.exported_steps.proofs.exported_steps.Goals.{After-run_steps-answer, After-state_in-held, Else-not-counts_right, Start}
@@ -80,13 +79,13 @@ returns-then-not-counts_right c =
     (sym c.counts_right.ensures ∙ c.if-not-counts_right.true)
 
 pub returns-then-res-lt12 : goal.returns-then-res-lt12
-unfolding kept_steps call_of result_of RunLaws.result_of
+unfolding kept_steps call_of result_of
 returns-then-res-lt12 c =
     let told = (goal.at.returns-then-res-lt12 c).After-state_in-held in
     let s = start told in
     let call = c.run_steps-judged in
     (λ i. record {
-      refusal = call.result.run.refusal;
+      refusal = (c.number_in.ensures ∙ sym (run-same call.result.run)) i;
       row_store = none_before call.new.rows (rows s) call.auto.rows i;
       relation_store = none_before call.new.relations (relations s) call.auto.relations i;
       state_store = state s;
@@ -101,13 +100,13 @@ put_answer-requires c =
     (long (read run), run.if-res-lt12.false, small run)
 
 pub returns : goal.returns
-unfolding call_of result_of RunLaws.result_of
+unfolding call_of result_of
 returns c =
     let run = (goal.at.returns c).After-run_steps-answer in
     let s = place run in
     let (refusal, state-after, result-after) = c.put_answer.ensures in
     (λ i. record {
-      refusal = refusal i;
+      refusal = (refusal ∙ sym (run-same run.run_steps-answer.result.run)) i;
       row_store = run.run_steps-answer.new.rows;
       relation_store = run.run_steps-answer.new.relations;
       state_store = c.put_answer.new.state;

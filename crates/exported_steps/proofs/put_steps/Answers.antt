@@ -2,7 +2,9 @@
 -- Assumes nothing.
 use mathlib.Core.Path.{◌≡◌, ◌∙◌, ap}
 use mathlib.Core.List.{◌∷◌}
+use mathlib.Core.Bool.{cond}
 use Prim.Native.Nat.{◌≤◌}
+use lib.IntN.{pos}
 use native.Mathlib.Omega.{arith}
 use lib.ListN.{length, length-set, length-append, length-map}
 use Rattle.lists.specs.Overwritten.{overwrite}
@@ -43,7 +45,7 @@ returns c =
     c.save.ensures
     ∙ two-and-more _ _ c.run_numbers-numbers.result result (omega (arith, start.requires.0))
     ∙ (λ i. overwrite
-    (count-value answer.steps (steps start) i ∷ answer-value answer.finished i ∷ c.run_numbers-numbers.ensures i) result)
+    (count-value answer.steps (steps start) i ∷ (answer-value c.is_finished.result ∙ ap (λ t. pos (cond t 1 0)) c.is_finished.ensures) i ∷ c.run_numbers-numbers.ensures i) result)
 
 pub overflow_cast-res : goal.overflow_cast-res
 overflow_cast-res c = count_fits _ (steps (goal.at.overflow_cast-res c).Start)

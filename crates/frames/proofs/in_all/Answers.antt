@@ -11,27 +11,28 @@ use Rattle.rules.specs.Batch.{client_count}
 use borrow.Author.Rules.{rules}
 use Rattle.frames.proofs.in_all.Goals as goal
 
-pub loop-i-init : goal.loop-i-init
+pub loop-count-init : goal.loop-count-init
 unfolding total
-loop-i-init c = (omega arith, (omega arith, refl))
+loop-count-init c =
+    (omega arith, refl)
 
 pub returns-then-sum-count : goal.returns-then-sum-count
 returns-then-sum-count c =
     let counts = c.args.counts in
-    let i = c.loop-i.i in
+    let i = c.loop-count.count-index in
     let size : length counts ≡ client_count = search rules in
     omega (arith, total-next counts i (omega arith), total-front counts (suc i), c.if-sum-count.true)
 
-pub loop-i-preserved : goal.loop-i-preserved
-loop-i-preserved c =
+pub loop-count-preserved : goal.loop-count-preserved
+loop-count-preserved c =
     let counts = c.args.counts in
-    let i = c.loop-i.i in
+    let i = c.loop-count.count-index in
     let size : length counts ≡ client_count = search rules in
-    (omega arith, (omega arith, rw add-one (omega (arith, total-next counts i (omega arith)))))
+    (omega arith, rw add-one (omega (arith, total-next counts i (omega arith))))
 
 pub returns : goal.returns
 returns c =
     let counts = c.args.counts in
-    let i = c.loop-i.i in
+    let i = c.loop-count.count-index in
     let size : length counts ≡ client_count = search rules in
     omega (arith, ap total (take_all i counts (omega arith)))

@@ -7,8 +7,5 @@ use Rattle.lists.specs.Totals.{total}
 use Rattle.rules.specs.Batch.{client_count}
 use Rattle.frames.proofs.in_all.Given as goal
 
-abbrev pub invariant-loop-i : goal.invariant-loop-i
-invariant-loop-i l = (l.i ≤ client_count) × ((l.sum ≤ 1000) × (l.sum ≡ total (take l.i l.counts)))
-
-abbrev pub decreases-loop-i : goal.decreases-loop-i
-decreases-loop-i l = client_count - l.i
+abbrev pub invariant-loop-count : goal.invariant-loop-count
+invariant-loop-count l = (l.sum ≤ 1000) × (l.sum ≡ total (take l.count-index l.fn.counts))

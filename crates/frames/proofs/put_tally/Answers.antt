@@ -9,18 +9,16 @@ use Rattle.frames.proofs.put_tally.Goals as goal
 
 pub loop-i-init : goal.loop-i-init
 unfolding tally_lines
-loop-i-init c = (omega arith, going-first refl)
+loop-i-init c = going-first refl
 
 pub loop-i-preserved : goal.loop-i-preserved
 loop-i-preserved c =
     let args = c.args in
-    let y : Tally = record { accepted = args.accepted; refused = args.refused } in (
-      omega arith,
-      going_next c.loop-i.invariant.1 (lines_next y c.loop-i.i (omega arith)) c.put_pair-at.ensures (omega arith),
-    )
+    let y : Tally = record { accepted = args.accepted; refused = args.refused } in
+    going_next c.loop-i.invariant (lines_next y c.loop-i.i (omega arith)) c.put_pair-at.ensures (omega arith)
 
 pub returns : goal.returns
 returns c =
     let args = c.args in
     let y : Tally = record { accepted = args.accepted; refused = args.refused } in
-    going-last c.loop-i.invariant.1 (lines_end y c.loop-i.i (omega arith)) (omega arith)
+    going-last c.loop-i.invariant (lines_end y c.loop-i.i (omega arith)) (omega arith)

@@ -10,7 +10,4 @@ use Rattle.frames.proofs.put_tally.Given as goal
 abbrev pub invariant-loop-i : goal.invariant-loop-i
 invariant-loop-i l =
     let y : Tally = record { accepted = l.accepted; refused = l.refused } in
-    (l.i ≤ client_count) × Going l.initial.bytes 0 (lines (tally_lines y)) l.bytes l.at (lines_from y l.i) (l.i * pair_bytes)
-
-abbrev pub decreases-loop-i : goal.decreases-loop-i
-decreases-loop-i l = client_count - l.i
+    Going l.initial.bytes 0 (lines (tally_lines y)) l.bytes l.at (lines_from y l.i) (l.i * pair_bytes)

@@ -9,11 +9,11 @@ slice_bounds-bytes-end g c =
     let a = c.args in
     let bytes = c.large_buffer-bytes.result in
     let inside = write-fits (the_sizes_of a.sizes) a.count a.order a.rows.now a.relations.now bytes in
-    omega (arith, ap (λ r. r.length) c.write_sheet-written.ensures, inside)
+    omega (arith, ap (λ r. r.length) c.in-Ok.ensures, inside)
 
 pub slice_bounds-print-end : goal.slice_bounds-print-end
 slice_bounds-print-end g c =
     let a = c.args in
     let bytes = c.large_buffer-bytes.result in
     let inside = write-fits (the_sizes_of a.sizes) a.count a.order a.rows.now a.relations.now bytes in
-    sym (length-take-le _ _ (omega (arith, ap (λ r. r.length) c.write_sheet-written.ensures, inside)))
+    sym (length-take-le _ _ (omega (arith, ap (λ r. r.length) c.in-Ok.ensures, inside)))

@@ -13,11 +13,14 @@ use Rattle.sides.specs.FurthestRoots.{Nonzero}
 use Rattle.sides.specs.Lent.{Within}
 use Rattle.sides.specs.ReportLaws.{settled_state}
 use Rattle.reduction.specs.Progress.{state_of, start_progress}
-use Rattle.runs.specs.CallLaws.{few-blocks}
+use Rattle.std.proofs.Common.{Ok, Err}
+use Rattle.std.proofs.lemmas.Result.{err_from_is_err_and}
+use Rattle.refusals.specs.Refusals.{number-nonzero}
+use Rattle.runs.specs.CallLaws.{few-blocks, result_of}
 use Rattle.logs.specs.ReplayCalls.{Checked, checked, first-ready, call-cleared, call-accepted, replay-nonzero}
 use Rattle.replays.specs.ReplayWork.{Left, outcome_of}
 use Rattle.logs.proofs.checked_replay.Goals as goal
-use Rattle.logs.proofs.checked_replay.Goals.{After-replay_on-o, Start}
+use Rattle.logs.proofs.checked_replay.Goals.{Start}
 
 -- the arguments
 module _ (c : Start) where
@@ -42,33 +45,15 @@ module _ (c : Start) where
   passed : Checked z count steps log rows relations
   passed = checked z count steps log rows relations c.requires
 
--- what the replay leaves
-module _ (c : After-replay_on-o) where
-  abbrev start : Start
-  start = (goal.at.After-replay_on-o c).Start
-
-  left : Left (rows start) (relations start) c.replay_on-o.new.rows c.replay_on-o.new.relations
-      (start_progress (equations (z start)) (count start)) c.replay_on-o.result
-      (outcome_of (z start).m (span (z start)) (steps start) (log start)
-      (state_of (rows start) (relations start) (start_progress (equations (z start)) (count start))))
-  unfolding the_sizes_of equations
-  left =
-      subst (λ d. Left (rows start) (relations start) c.replay_on-o.new.rows c.replay_on-o.new.relations
-      (start_progress (equations (z start)) (count start)) c.replay_on-o.result
-      (outcome_of (z start).m d (steps start) (log start)
-      (state_of (rows start) (relations start) (start_progress (equations (z start)) (count start)))))
-      c.span-span.ensures c.replay_on-o.ensures
-
 pub span-span-requires : goal.span-span-requires
-span-span-requires c =
-    (passed c).stores.sizes
+span-span-requires c = (passed (goal.at.span-span-requires c).Start).stores.sizes
 
-pub replay_on-o-requires : goal.replay_on-o-requires
+pub replay_on-requires : goal.replay_on-requires
 unfolding the_sizes_of equations
-replay_on-o-requires c =
-    let s = (goal.at.replay_on-o-requires c).Start in
+replay_on-requires c =
+    let s = (goal.at.replay_on-requires c).Start in
     let bounds = size-bounds (z s) (passed s).stores.sizes in
-    record {
+    rw c.start-first.ensures record {
       ready = (
         first-ready (z s) (count s) (steps s) (log s) (rows s) (relations s) s.requires,
         refl,
@@ -79,34 +64,37 @@ replay_on-o-requires c =
       m_le_column_count = (bounds.few, (passed s).log-long);
     }
 
-pub returns-then-refusal-ne0 : goal.returns-then-refusal-ne0
-returns-then-refusal-ne0 c =
-    let after = (goal.at.returns-then-refusal-ne0 c).After-replay_on-o in
-    let s = start after in
-    call-cleared (z s) (count s) (steps s) (log s) (rows s) (relations s) c.refused.result s.requires (left after) c.if-refusal-ne0.true
-    c.refused.ensures
+pub returns-in_err-p : goal.returns-in_err-p
+unfolding the_sizes_of equations result_of
+returns-in_err-p c =
+    let s = (goal.at.returns-in_err-p c).Start in
+    let exit = err_from_is_err_and c.from_residual.result c.from_residual.ensures.1 in
+    let l = rw (c.start-first.ensures, c.span-span.ensures) at c.in_err-p.ensures in
+    rw (exit.1, exit.2)
+    (call-cleared (z s) (count s) (steps s) (log s) (rows s) (relations s) (Err c.in_err-p.field-0.0) s.requires l (number-nonzero c.in_err-p.field-0.0)
+    refl)
 
 pub accepted-requires : goal.accepted-requires
+unfolding the_sizes_of equations
 accepted-requires c =
-    let after = (goal.at.accepted-requires c).After-replay_on-o in
-    let s = start after in
-    let l = left after in
-    let settled = (l.finished.all_settled c.if-refusal-ne0.false).1 in
+    let s = (goal.at.accepted-requires c).Start in
+    let l = rw (c.start-first.ensures, c.span-span.ensures) at c.in_ok-p.ensures in
+    let settled = (l.finished.all_settled refl).1 in
     let ready = l.ran.reached.ready in
-    let within = subst (λ n. Within (row_need n) after.replay_on-o.new.rows) settled ready.rows-within in
+    let within = subst (λ n. Within (row_need n) c.replay_on.new.rows) settled ready.rows-within in
     record {
-      span_bound = (rw after.span-span.ensures (few-blocks (z s) (passed s).stores.sizes), ready.few-settled, within, settled);
+      span_bound = (rw c.span-span.ensures (few-blocks (z s) (passed s).stores.sizes), ready.few-settled, within, settled);
       order_len = (ready.four, ready.columns);
       nonzero =
-          subst (λ d. Nonzero (diagonal leading d (settled_state after.replay_on-o.result.progress.settled after.replay_on-o.new.rows
-          after.replay_on-o.result.progress.order))) (sym after.span-span.ensures)
-          (replay-nonzero (z s) (count s) (steps s) (log s) (rows s) (relations s) l s.requires c.if-refusal-ne0.false);
+          subst (λ d. Nonzero (diagonal leading d (settled_state c.in_ok-p.p.settled c.replay_on.new.rows c.in_ok-p.p.order))) (sym c.span-span.ensures)
+          (replay-nonzero (z s) (count s) (steps s) (log s) (rows s) (relations s) l s.requires refl);
     }
 
 pub returns : goal.returns
+unfolding the_sizes_of equations
 returns c =
-    let after = (goal.at.returns c).After-replay_on-o in
-    let s = start after in
-    let state = state_of after.replay_on-o.new.rows after.replay_on-o.new.relations after.replay_on-o.result.progress in
-    call-accepted (z s) (count s) (steps s) (log s) (rows s) (relations s) c.accepted.result s.requires (left after) c.if-refusal-ne0.false
-    (c.accepted.ensures after.replay_on-o.new.relations ∙ ap (λ d. acceptance leading d state) after.span-span.ensures)
+    let s = (goal.at.returns c).Start in
+    let l = rw (c.start-first.ensures, c.span-span.ensures) at c.in_ok-p.ensures in
+    let state = state_of c.replay_on.new.rows c.replay_on.new.relations c.in_ok-p.p in
+    call-accepted (z s) (count s) (steps s) (log s) (rows s) (relations s) (Ok c.accepted.result) s.requires l refl
+    (c.accepted.ensures c.replay_on.new.relations ∙ ap (λ d. acceptance leading d state) c.span-span.ensures)

@@ -1,31 +1,28 @@
 -- `multiplicities::with_times` meets its contract.
 -- Assumes nothing.
-use mathlib.Core.Path.{sym, ◌∙◌, ap}
-use mathlib.Core.Bool.{cond}
-use mir.Syntax.{w64}
-use mir.Val.{SFits}
+use mathlib.Core.Path.{◌∙◌, sym, ap, subst}
+use native.Mathlib.Omega.{arith}
+use lib.IntN.{nat_abs}
 use mir.Facts.{to_z-of_z}
-use Rattle.algebra.specs.Multiplicity.{multiplicity}
+use Prim.Native.Nat.{◌≤◌}
+use Rattle.std.specs.Prelude.{Some, IfSome}
+use Rattle.integers.specs.Ranges.{sfits-size}
+use Rattle.rules.specs.Limits.{bound}
+use Rattle.multiplicities.specs.Counts.{with_times_of}
 use Rattle.multiplicities.proofs.with_times.Goals as goal
-use Rattle.multiplicities.proofs.with_times.Goals.{After-struct_told-1}
+use Rattle.multiplicities.proofs.with_times.Goals.{In_ok-value}
 
--- The root that was read.
-read : (c : After-struct_told-1) → SFits w64 c.args.answer.root
-read c = record { sfits = c.struct_told-1.given.1.0.1 }
+-- The root.
+inside : (c : In_ok-value) → nat_abs c.in_ok-value.value ≤ bound
+inside c = subst (λ o. IfSome o (λ r. nat_abs r ≤ bound)) c.in_ok-value.was c.requires.2
 
-pub returns-then-found : goal.returns-then-found
-returns-then-found c =
-    let told = c.before.before in
-    let p = told.args.p.now in
-    let a = told.args.answer in
-    let times = rw (to_z-of_z (read told)) at c.multiplicity.ensures in
-    rw (to_z-of_z (read told)) (ap (λ n. record { found = a.found; root = a.root; times = n })
-    (times ∙ sym (ap (λ t. cond t (multiplicity p a.root) 0) c.if-found.true)))
+pub multiplicity-requires : goal.multiplicity-requires
+multiplicity-requires c =
+    let size = inside c in
+    (c.requires.0, c.requires.1, rw (to_z-of_z (sfits-size c.in_ok-value.value size (omega arith))) size)
 
-pub returns-else-found : goal.returns-else-found
-returns-else-found c =
-    let told = c.before in
-    let p = told.args.p.now in
-    let a = told.args.answer in
-    rw (to_z-of_z (read told)) (ap (λ n. record { found = a.found; root = a.root; times = n })
-    (sym (ap (λ t. cond t (multiplicity p a.root) 0) c.if-found.false)))
+pub returns : goal.returns
+returns c =
+    let read = to_z-of_z (sfits-size c.in_ok-value.value (inside c.before) (omega arith)) in
+    simp read (ap (λ n. Some (record { value = c.in_ok-value.value; times = n })) (rw read at c.multiplicity.ensures)
+    ∙ sym (ap (with_times_of c.args.p.now) c.in_ok-value.was))

@@ -83,8 +83,8 @@ module _ (c : In-loop-i) where
 pub loop-i-init : goal.loop-i-init
 loop-i-init c = (omega arith, refl, refl, c.requires.p_nonzero.2)
 
-pub overflow_add-end : goal.overflow_add-end
-overflow_add-end c = omega (arith, room c, (at c).loop-i.invariant.1)
+pub overflow_add-i : goal.overflow_add-i
+overflow_add-i c = omega (arith, room c, (at c).loop-i.invariant.1)
 
 pub slice_bounds-add_multiple-end : goal.slice_bounds-add_multiple-end
 slice_bounds-add_multiple-end c = room c

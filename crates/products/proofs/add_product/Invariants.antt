@@ -3,7 +3,7 @@
 -- Assumes nothing.
 use mathlib.Core.Path.{◌≡◌}
 use mathlib.Core.List.{◌++◌}
-use Prim.Native.Nat.{◌+◌, ◌-◌, ◌*◌, ◌≤◌}
+use Prim.Native.Nat.{◌+◌, ◌*◌, ◌≤◌}
 use lib.ListN.{length, take, drop}
 use Rattle.algebra.specs.Polynomials.{add, mul}
 use Rattle.rules.specs.Limits.{bound}
@@ -14,6 +14,3 @@ abbrev pub invariant-loop-i : goal.invariant-loop-i
 invariant-loop-i l =
     (l.i ≤ length l.g) × (length l.place ≡ length l.initial.place) × (add l.initial.place (mul l.g l.p) ≡ take l.i l.place ++ add (drop l.i l.place) (mul (drop l.i l.g) l.p))
     × Below ((16 + l.i) * (bound * bound) + 1) l.place
-
-abbrev pub decreases-loop-i : goal.decreases-loop-i
-decreases-loop-i l = length l.g - l.i

@@ -60,9 +60,6 @@ plus_multiple-requires c =
 pub bounds-place-k : goal.bounds-place-k
 bounds-place-k c = inside c.before.before.before
 
-pub loop-k-smaller : goal.loop-k-smaller
-loop-k-smaller c = let d = c.before.before.before in omega (arith, (start d).requires.0, d.loop-k-test.true)
-
 pub loop-k-preserved : goal.loop-k-preserved
 loop-k-preserved c =
     let d = c.before.before.before in (

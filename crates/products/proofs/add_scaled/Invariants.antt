@@ -2,7 +2,6 @@
 -- were.
 -- Assumes nothing.
 use mathlib.Core.Path.{◌≡◌}
-use Prim.Native.Nat.{◌-◌}
 use lib.ListN.{length, drop}
 use Rattle.algebra.specs.Polynomials.{add, scale}
 use Rattle.lists.specs.Taken.{Overwritten}
@@ -11,6 +10,3 @@ use Rattle.products.proofs.add_scaled.Given as goal
 abbrev pub invariant-loop-k : goal.invariant-loop-k
 invariant-loop-k l =
     Overwritten (length l.initial.place) (add l.initial.place (scale l.a l.p)) l.place l.k × (drop l.k l.place ≡ drop l.k l.initial.place)
-
-abbrev pub decreases-loop-k : goal.decreases-loop-k
-decreases-loop-k l = length l.initial.place - l.k

@@ -63,8 +63,8 @@ loop-i-init c =
     let args = c.args in
     let last : c.if-k-g.end ≡ min (args.k + 1) (length args.g.now)
     = elim c.if-k-g.branch [ then-k-g w ↦ omega arith | else-k-g w ↦ omega arith ] in
-    let first : c.if-k-p.i ≡ args.k + 1 - length args.p.now = elim c.if-k-p.branch [ then-k-p w ↦ omega arith | else-k-p w ↦ omega arith ] in
-    (omega arith, omega arith, last, sym (sum-none args.g.now args.p.now args.k c.if-k-p.i first))
+    let first : c.if-k-p.first ≡ args.k + 1 - length args.p.now = elim c.if-k-p.branch [ then-k-p w ↦ omega arith | else-k-p w ↦ omega arith ] in
+    (omega arith, omega arith, last, sym (sum-none args.g.now args.p.now args.k c.if-k-p.first first))
 
 pub overflow_mul-sum : goal.overflow_mul-sum
 overflow_mul-sum c = product-fits c

@@ -17,17 +17,17 @@ use Rattle.stores.specs.Validity.{the_sizes_of}
 use Rattle.records.specs.Records.{Tested, fits, refused, check_record_of, after_check, record_call, tests, equation_tests}
 use Rattle.records.specs.Records.{relation_tests, answer_to, values_right_of}
 use Rattle.records.specs.RecordChecks.{RecordRight, check_record-zero}
-use Rattle.records.specs.RecordAnswers.{answer_of, go_on, stays, answer-append, answer-count, equations-count, rows-small}
-use Rattle.records.specs.declared.Answer.TheVariants.{Fits}
+use Rattle.records.specs.RecordAnswers.{answer_of, go_on, stays, refused-stays, answer-append, answer-count, equations-count, rows-small}
+use Rattle.records.specs.declared.Finding.TheVariants.{Fits}
+use Rattle.refusals.specs.Refusals.{number_of, number-nonzero}
+use Rattle.std.proofs.Common.{Result, Ok, Err}
+use Rattle.std.proofs.lemmas.Result.{err_from_is_err_and}
 use mir.Syntax.{w64}
 use Rattle.records.proofs.check_record.Goals as goal
-use Rattle.records.proofs.check_record.Goals.{After-check-refusal, After-equations_fit-answer, Else-refusal-ne0, In-Fits, Start}
+use Rattle.records.proofs.check_record.Goals.{In_ok-check, In_ok-finding, In-Fits, Start}
 
 -- The check.
-module _ (a : After-check-refusal) where
-  abbrev s : Start
-  s = (goal.at.After-check-refusal a).Start
-
+module _ (s : Start) where
   abbrev z : Stores.Sizes
   z = the_sizes_of s.args.sizes
 
@@ -36,39 +36,41 @@ module _ (a : After-check-refusal) where
       check_record_of z s.args.count s.args.first s.args.vectors s.args.rows.now s.args.relations.now
       s.args.values.now
 
-  checked-is : a.check-refusal.result ≡ checked
-  checked-is = simp (to_z-of_z s.ranges.first) at a.check-refusal.ensures
-
 refuses : (z : Stores.Sizes) (count : ℕ) (first : ℤ) (vectors : ℕ) (rows relations values : List ℤ) (n : ℕ) → (n ≡ 0 → ⊥)
     → refused n ≡ after_check z count first vectors rows relations values n
 unfolding after_check
 refuses z count first vectors rows relations values zero h = absurd (h refl)
 refuses z count first vectors rows relations values (suc n) h = refl
 
-pub returns-then-refusal-ne0 : goal.returns-then-refusal-ne0
+pub returns-in_err-check : goal.returns-in_err-check
 unfolding answer_of record_call
-returns-then-refusal-ne0 c =
-    let a = (goal.at.returns-then-refusal-ne0 c).After-check-refusal in
-    let st = s a in
-    ap refused (checked-is a)
-    ∙ refuses (z a) st.args.count st.args.first st.args.vectors st.args.rows.now st.args.relations.now
-    st.args.values.now
-    (checked a) (λ e. c.if-refusal-ne0.true (checked-is a ∙ e))
+returns-in_err-check c =
+    let s = (goal.at.returns-in_err-check c).Start in
+    let r = c.in_err-check.field-0.0 in
+    let checked-is : number_of r ≡ checked s = simp (to_z-of_z {w = w64} s.ranges.first) at c.in_err-check.ensures in
+    let p = err_from_is_err_and c.from_residual.result c.from_residual.ensures.1 in
+    rw (p.1, p.2)
+    (ap refused checked-is
+    ∙ refuses (z s) s.args.count s.args.first s.args.vectors s.args.rows.now s.args.relations.now s.args.values.now
+    (checked s) (λ e. number-nonzero r (checked-is ∙ e)))
 
 -- The check passed.
-module _ (d : Else-refusal-ne0) where
-  abbrev a : After-check-refusal
-  a = (goal.at.Else-refusal-ne0 d).After-check-refusal
+module _ (d : In_ok-check) where
+  abbrev a : Start
+  a = (goal.at.In_ok-check d).Start
 
   abbrev st : Start
-  st = s a
+  st = a
+
+  checked-is : 0 ≡ checked a
+  checked-is = simp (to_z-of_z a.ranges.first) at d.in_ok-check.ensures
 
   right : RecordRight (z a) st.args.count st.args.first st.args.vectors st.args.rows.now st.args.relations.now
       st.args.values.now
   right =
       check_record-zero (z a) st.args.count st.args.first st.args.vectors st.args.rows.now st.args.relations.now
       st.args.values.now
-      (sym (checked-is a) ∙ d.if-refusal-ne0.false)
+      (sym checked-is)
 
   bounds : SizeBounds (z a)
   bounds = size-bounds (z a) right.system.sizes
@@ -111,20 +113,20 @@ module _ (d : Else-refusal-ne0) where
   whole =
       ap (after_check (z a) st.args.count st.args.first st.args.vectors st.args.rows.now st.args.relations.now
       st.args.values.now)
-      (sym (checked-is a) ∙ d.if-refusal-ne0.false)
+      (sym checked-is)
       ∙ answer-append 0 on-equations on-relations
 
 pub overflow_mul-need : goal.overflow_mul-need
 unfolding the_sizes_of
-overflow_mul-need c = let d = (goal.at.overflow_mul-need c).Else-refusal-ne0 in omega (arith, mul-le-mul (right d).few (bounds d).few)
+overflow_mul-need c = let d = (goal.at.overflow_mul-need c).In_ok-check in omega (arith, mul-le-mul (right d).few (bounds d).few)
 
 pub slice_bounds-record-end : goal.slice_bounds-record-end
-slice_bounds-record-end c = sym (known-long (goal.at.slice_bounds-record-end c).Else-refusal-ne0)
+slice_bounds-record-end c = sym (known-long (goal.at.slice_bounds-record-end c).In_ok-check)
 
-pub equations_fit-answer-requires : goal.equations_fit-answer-requires
+pub equations_fit-requires : goal.equations_fit-requires
 unfolding the_sizes_of Stores.equations
-equations_fit-answer-requires c =
-    let d = (goal.at.equations_fit-answer-requires c).Else-refusal-ne0 in
+equations_fit-requires c =
+    let d = (goal.at.equations_fit-requires c).In_ok-check in
     simp (to_z-of_z {w = w64} (st d).ranges.first) record {
       t = ((right d).system.sizes, (right d).first-near, (right d).few);
       equations_in_bounds =
@@ -132,27 +134,35 @@ equations_fit-answer-requires c =
       t_2 = (known-near d, le_of_eq (sym (known-long d)));
     }
 
+pub returns-in_err-finding : goal.returns-in_err-finding
+returns-in_err-finding c =
+    let d = (goal.at.returns-in_err-finding c).In_ok-check in
+    let answered = simp (to_z-of_z {w = w64} (st d).ranges.first) at c.in_err-finding.ensures in
+    let p = err_from_is_err_and c.from_residual-in_err-finding.result c.from_residual-in_err-finding.ensures.1 in
+    rw (p.1, p.2)
+    (sym (refused-stays c.in_err-finding.field-0.0 (on-relations d)) ∙ ap (go_on (on-relations d)) answered ∙ sym (whole d))
+
 -- What the equations answer.
-answered : (e : After-equations_fit-answer) → answer_of e.equations_fit-answer.result
-    ≡ answer_to 0 (on-equations (goal.at.After-equations_fit-answer e).Else-refusal-ne0)
+answered : (e : In_ok-finding) → answer_of (Ok e.in_ok-finding.finding)
+    ≡ answer_to 0 (on-equations (goal.at.In_ok-finding e).In_ok-check)
 answered e =
-    let d = (goal.at.After-equations_fit-answer e).Else-refusal-ne0 in
-    simp (to_z-of_z (st d).ranges.first) at e.equations_fit-answer.ensures
+    let d = (goal.at.In_ok-finding e).In_ok-check in
+    simp (to_z-of_z (st d).ranges.first) at e.in_ok-finding.ensures
 
 pub returns-in_default : goal.returns-in_default
 returns-in_default c =
-    let e = (goal.at.returns-in_default c).After-equations_fit-answer in
-    let d = (goal.at.After-equations_fit-answer e).Else-refusal-ne0 in
-    sym (stays e.equations_fit-answer.result (on-relations d) c.in_default.not-Fits)
+    let e = (goal.at.returns-in_default c).In_ok-finding in
+    let d = (goal.at.In_ok-finding e).In_ok-check in
+    sym (stays e.in_ok-finding.finding (on-relations d) c.in_default.not-Fits)
     ∙ ap (go_on (on-relations d)) (answered e) ∙ sym (whole d)
 
 -- The equations fit.
 module _ (k : In-Fits) where
-  abbrev e : After-equations_fit-answer
-  e = (goal.at.In-Fits k).After-equations_fit-answer
+  abbrev e : In_ok-finding
+  e = (goal.at.In-Fits k).In_ok-finding
 
-  abbrev d : Else-refusal-ne0
-  d = (goal.at.After-equations_fit-answer e).Else-refusal-ne0
+  abbrev d : In_ok-check
+  d = (goal.at.In_ok-finding e).In_ok-check
 
   abbrev tested : ℕ
   tested = k.in-Fits.tested
@@ -160,8 +170,8 @@ module _ (k : In-Fits) where
   all_fit : answer_to 0 (on-equations d) ≡ fits tested
   unfolding answer_of
   all_fit =
-      let known : e.equations_fit-answer.result ≡ Fits tested = k.in-Fits.is in
-      sym (answered e) ∙ ap answer_of known
+      let known : e.in_ok-finding.finding ≡ Fits tested = k.in-Fits.is in
+      sym (answered e) ∙ ap (λ r. answer_of (Ok r)) known
 
   tested-few : tested ≤ 900
   unfolding the_sizes_of Stores.equations

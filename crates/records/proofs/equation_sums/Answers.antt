@@ -3,7 +3,7 @@
 use mathlib.Core.Path.{◌≡◌, ◌∙◌, sym, ap, subst}
 use mathlib.Core.List.{List}
 use mathlib.Core.Logic.{inr}
-use Prim.Native.Nat.{ℕ, ◌+◌, ◌*◌, ◌≤◌, ◌<◌, zero-le}
+use Prim.Native.Nat.{ℕ, ◌+◌, ◌*◌, ◌≤◌, ◌<◌}
 use native.Mathlib.Nat.{zero-add}
 use native.Mathlib.Omega.{arith}
 use borrow.Author.Rules.{rules}
@@ -48,7 +48,6 @@ module _ (d : In-loop-i) where
 pub loop-i-init : goal.loop-i-init
 loop-i-init c =
     let a = c.args in (
-      zero-le,
       c.requires.equations_le_most_equations.2,
       search rules,
       λ k l. absurd (omega arith),
@@ -77,8 +76,8 @@ row_sums-requires c =
       );
       t_2 = (st.requires.t.0, st.requires.t.1, st.requires.t.2, st.requires.t.3, omega arith, st.requires.t.4);
       zeros_at = record {
-        room = omega (arith, below d, few d, tests-few d, st.requires.equations_le_most_equations.3.room, d.loop-i.invariant.2);
-        zeros = λ j l. d.loop-i.invariant.4 (i d * most_vectors + j) (omega arith) (omega (arith, below d, few d, tests-few d));
+        room = omega (arith, below d, few d, tests-few d, st.requires.equations_le_most_equations.3.room, d.loop-i.invariant.1);
+        zeros = λ j l. d.loop-i.invariant.3 (i d * most_vectors + j) (omega arith) (omega (arith, below d, few d, tests-few d));
       };
     }
 
@@ -86,13 +85,7 @@ pub offset_bounds-formed-i : goal.offset_bounds-formed-i
 offset_bounds-formed-i c = let d = (goal.at.offset_bounds-formed-i c).In-loop-i in omega (arith, below d, few d)
 
 pub bounds-formed-i : goal.bounds-formed-i
-bounds-formed-i c = let d = (goal.at.bounds-formed-i c).In-loop-i in omega (arith, below d, few d, d.loop-i.invariant.1)
-
-pub overflow_add-i : goal.overflow_add-i
-overflow_add-i c = let d = (goal.at.overflow_add-i c).In-loop-i in omega (arith, below d, few d)
-
-pub loop-i-smaller : goal.loop-i-smaller
-loop-i-smaller c = let d = (goal.at.loop-i-smaller c).In-loop-i in omega (arith, below d)
+bounds-formed-i c = let d = (goal.at.bounds-formed-i c).In-loop-i in omega (arith, below d, few d, d.loop-i.invariant.0)
 
 pub loop-i-preserved : goal.loop-i-preserved
 loop-i-preserved c =
@@ -102,25 +95,24 @@ loop-i-preserved c =
     let inv = d.loop-i.invariant in
     let known : Known (sums_of a.m a.span a.n a.values.now a.rows.now (i d)) a.tests (i d * most_vectors) c.row_sums.new.sums
     c.row_sums.result = simp (to_z-of_z st.ranges.n, c.row_at.ensures.result_value) at c.row_sums.ensures.1 in
-    let all = rw (to_z-of_z st.ranges.n) at inv.3 in (
-      omega (arith, below d),
-      length-set (formed d) (i d) c.row_sums.result ∙ inv.1,
-      c.row_sums.ensures.0.same_length ∙ inv.2,
+    let all = rw (to_z-of_z st.ranges.n) at inv.2 in (
+      length-set (formed d) (i d) c.row_sums.result ∙ inv.0,
+      c.row_sums.ensures.0.same_length ∙ inv.1,
       rw (to_z-of_z st.ranges.n)
           (all-next a.m a.span a.n a.values.now a.rows.now a.tests (sums d) (formed d) (i d) c.row_sums.new.sums c.row_sums.result
-          (tests-few d) (omega (arith, below d, few d, inv.1)) all known c.row_sums.ensures.0),
-      λ k h l. c.row_sums.ensures.0.others k (inr (omega (arith, tests-few d))) ∙ inv.4 k (omega arith) l,
+          (tests-few d) (omega (arith, below d, few d, inv.0)) all known c.row_sums.ensures.0),
+      λ k h l. c.row_sums.ensures.0.others k (inr (omega (arith, tests-few d))) ∙ inv.3 k (omega arith) l,
     )
 
 pub shape_of-sums : goal.shape_of-sums
-shape_of-sums c = c.loop-i.invariant.2
+shape_of-sums c = c.loop-i.invariant.1
 
 pub shape_of-formed : goal.shape_of-formed
-shape_of-formed c = c.loop-i.invariant.1 ∙ sym c.requires.equations_le_most_equations.2
+shape_of-formed c = c.loop-i.invariant.0 ∙ sym c.requires.equations_le_most_equations.2
 
 pub returns : goal.returns
 returns c =
     let a = c.args in
-    let all : c.loop-i.i ≡ a.equations = omega (arith, c.loop-i.invariant.0, c.loop-i-test.false) in
+    let all : c.loop-i.i ≡ a.equations = omega (arith, c.loop-i.auto.i-end, c.loop-i-test.false) in
     subst (AllKnown a.m a.span a.n a.values.now a.rows.now a.tests c.loop-i.sums c.loop-i.formed) all
-    (rw (to_z-of_z c.ranges.n) at c.loop-i.invariant.3)
+    (rw (to_z-of_z c.ranges.n) at c.loop-i.invariant.2)

@@ -7,7 +7,7 @@ use mathlib.Core.Option.{some}
 use Prim.Native.Nat.{ℕ, suc, ◌+◌, ◌*◌, ◌-◌}
 use native.Mathlib.Nat.{add-zero, sub-zero}
 use native.Mathlib.Omega.{arith}
-use borrow.Author.Rules.{rules, sfits_of}
+use borrow.Author.Rules.{sfits_of}
 use lib.IntN.{ℤ, pos}
 use lib.ListN.{get_or}
 use mir.Syntax.{w64}
@@ -52,15 +52,13 @@ module _ (d : In-loop-i) where
   whole =
       let turns : s.args.equations - i ≡ suc (s.args.equations - (i + 1)) = omega (arith, d.loop-i-test.true) in
       ap (λ k. answer_to (s.args.before + i) (stored_tests n sums formed s.args.j i k)) (sym turns)
-      ∙ (simp (to_z-of_z s.ranges.n) at d.loop-i.invariant.1)
+      ∙ (simp (to_z-of_z s.ranges.n) at d.loop-i.invariant)
 
 pub loop-i-init : goal.loop-i-init
 loop-i-init c =
-    let a = c.args in (
-      search rules,
-      ap₂ (λ k e. answer_to k (stored_tests (to_z w64 (of_z w64 a.n)) a.sums.now a.formed.now a.j 0 e)) (add-zero a.before)
-          (sub-zero a.equations),
-    )
+    let a = c.args in
+    ap₂ (λ k e. answer_to k (stored_tests (to_z w64 (of_z w64 a.n)) a.sums.now a.formed.now a.j 0 e)) (add-zero a.before)
+    (sub-zero a.equations)
 
 pub offset_bounds-formed-i : goal.offset_bounds-formed-i
 offset_bounds-formed-i c = omega (arith, c.loop-i-test.true, (s c).requires.equations_le_most_equations.0)
@@ -127,33 +125,23 @@ returns-then-sum-ne0 c =
     simp (to_z-of_z {w = w64} (s e).ranges.n, to_z-of_z {w = w64} (sum_fits k))
     (sym (sym (whole e) ∙ answer-fails ((s e).args.before + i e) (test e) (rest e) (sum e) (sum-found k) nonzero))
 
-pub overflow_add-i : goal.overflow_add-i
-overflow_add-i c =
-    let after = (goal.at.overflow_add-i c).After-sum-1 in
-    let e = d after in omega (arith, e.loop-i-test.true, (s e).requires.equations_le_most_equations.0)
-
-pub loop-i-smaller : goal.loop-i-smaller
-loop-i-smaller c = let e = d (goal.at.loop-i-smaller c).After-sum-1 in omega (arith, e.loop-i-test.true)
-
 pub loop-i-preserved : goal.loop-i-preserved
 loop-i-preserved c =
     let k = (goal.at.loop-i-preserved c).After-sum-1 in
     let e = d k in
     let zero-sum : sum e ≡ pos 0 = of_z-inj (sum_fits k) (sfits_lit tt) c.if-sum-ne0.false in
-    let more : (s e).args.before + i e + 1 ≡ (s e).args.before + (i e + 1) = omega arith in (
-      omega (arith, e.loop-i-test.true),
-      simp (to_z-of_z {w = w64} (s e).ranges.n)
-          (ap (λ j. answer_to j (rest e)) (sym more)
-          ∙ sym (answer-zero ((s e).args.before + i e) (test e) (rest e) (sum-found k ∙ ap some zero-sum)) ∙ whole e),
-    )
+    let more : (s e).args.before + i e + 1 ≡ (s e).args.before + (i e + 1) = omega arith in
+    simp (to_z-of_z {w = w64} (s e).ranges.n)
+    (ap (λ j. answer_to j (rest e)) (sym more)
+    ∙ sym (answer-zero ((s e).args.before + i e) (test e) (rest e) (sum-found k ∙ ap some zero-sum)) ∙ whole e)
 
 pub returns : goal.returns
 unfolding answer_of answer_to stored_tests
 returns c =
     let a = c.args in
-    let all : c.loop-i.i ≡ a.equations = omega (arith, c.loop-i.invariant.0, c.loop-i-test.false) in
+    let all : c.loop-i.i ≡ a.equations = omega (arith, c.loop-i.auto.i-end, c.loop-i-test.false) in
     let none_left : a.equations - c.loop-i.i ≡ 0 = omega arith in
     ap (λ j. fits (a.before + j)) (sym all)
     ∙ sym (ap (λ k. answer_to (a.before + c.loop-i.i) (stored_tests a.n a.sums.now a.formed.now a.j
     c.loop-i.i k)) none_left)
-    ∙ (simp (to_z-of_z c.ranges.n) at c.loop-i.invariant.1)
+    ∙ (simp (to_z-of_z c.ranges.n) at c.loop-i.invariant)

@@ -18,11 +18,15 @@ use Rattle.rules.specs.Stores as Stores
 use Rattle.rules.specs.Stores.{rows_of}
 use Rattle.stores.specs.Validity.{the_sizes_of}
 use Rattle.records.specs.Records.{Tested, fits, row_tests, equation_tests, answer_to, index_from_of}
-use Rattle.records.specs.RecordAnswers.{answer_of, go_on, stays, answer-append, answer-count, equations-next, row-tests-count, span-few}
+use Rattle.records.specs.RecordAnswers.{answer_of, go_on, stays, refused-stays, answer-append, answer-count, equations-next, row-tests-count, span-few}
 use Rattle.records.specs.Successive.{AllKnown, stored_tests, zeros-there, stored-tests, stored-formed}
-use Rattle.records.specs.declared.Answer.TheVariants.{Fits}
+use Rattle.records.specs.declared.Finding.{Finding}
+use Rattle.records.specs.declared.Finding.TheVariants.{Fits}
+use Rattle.refusals.specs.declared.Refusal.{Refusal}
+use Rattle.std.proofs.Common.{Result, Ok, Err}
+use Rattle.std.proofs.lemmas.Result.{err_from_is_err_and}
 use Rattle.records.proofs.equations_fit.Goals as goal
-use Rattle.records.proofs.equations_fit.Goals.{After-equation_sums, After-equations_at-answer, After-index_from-n, After-span-span, In-loop-j, Start}
+use Rattle.records.proofs.equations_fit.Goals.{After-equation_sums, After-index_from-n, After-span-span, In-loop-j, Start}
 
 -- What is known before the loop.
 module _ (a : After-span-span) where
@@ -111,7 +115,7 @@ module _ (d : In-loop-j) where
       let places : b.span-span.result + j ≡ j + b.span-span.result = omega arith in
       ap (λ n. stored_tests n (sums q) (formed q) j 0 (s b).args.sizes.equations) (sym (index_is q j))
       ∙ stored-tests (s b).args.sizes.m b.span-span.result (lowest q) (s b).args.values.now (s b).args.rows.now (tests b) (sums q)
-      (formed q) (s b).args.sizes.equations j below (known q) d.loop-j.invariant.3 0 (s b).args.sizes.equations
+      (formed q) (s b).args.sizes.equations j below (known q) d.loop-j.invariant.2 0 (s b).args.sizes.equations
       (zero-add (s b).args.sizes.equations)
       ∙ ap₂ (λ k n. row_tests (s b).args.sizes.m b.span-span.result (s b).args.values.now k n 1 (rows b)) places (index_is q j)
 
@@ -123,7 +127,7 @@ module _ (d : In-loop-j) where
       ap (answer_to d.loop-j.tested)
       (ap (λ k. row_tests (s b).args.sizes.m k (s b).args.values.now (j + k) index 1 (rows b) ++ all b (j + 1) left) (span-is b)
       ∙ sym next ∙ ap (all b j) (sym turns))
-      ∙ (simp (to_z-of_z (s b).ranges.first) at d.loop-j.invariant.2)
+      ∙ (simp (to_z-of_z (s b).ranges.first) at d.loop-j.invariant.1)
 
 -- The index there.
 turn-index : (f : After-index_from-n) → to_z w64 (of_z w64 f.index_from-n.result) ≡ index (goal.at.After-index_from-n f).In-loop-j
@@ -132,19 +136,22 @@ turn-index f =
     ∙ (simp (to_z-of_z (s (b (goal.at.After-index_from-n f).In-loop-j)).ranges.first) at f.index_from-n.ensures.value)
 
 -- What the equations there answer.
-module _ (e : After-equations_at-answer) where
+module _ (e : After-index_from-n) (r : Result Finding Refusal)
+    (told : let d = (goal.at.After-index_from-n e).In-loop-j in
+    answer_of r ≡ answer_to d.loop-j.tested
+    (stored_tests (to_z w64 (of_z w64 e.index_from-n.result)) (sums (q d)) (formed (q d)) (j d) 0 (s (b d)).args.sizes.equations)) where
   abbrev d : In-loop-j
-  d = (goal.at.After-equations_at-answer e).In-loop-j
+  d = (goal.at.After-index_from-n e).In-loop-j
 
-  answered : answer_of e.equations_at-answer.result ≡ answer_to d.loop-j.tested (here d)
+  answered : answer_of r ≡ answer_to d.loop-j.tested (here d)
   answered =
-      e.equations_at-answer.ensures
+      told
       ∙ ap (λ n. answer_to d.loop-j.tested
       (stored_tests n (sums (q d)) (formed (q d)) (j d) 0 (s (b d)).args.sizes.equations))
-      (turn-index (goal.at.After-equations_at-answer e).After-index_from-n)
+      (turn-index e)
       ∙ ap (answer_to d.loop-j.tested) (stored d)
 
-  goes_on : go_on (all (b d) (j d + 1) (left d)) (answer_of e.equations_at-answer.result) ≡ answer_to 0 (all (b d) 0 (tests (b d)))
+  goes_on : go_on (all (b d) (j d + 1) (left d)) (answer_of r) ≡ answer_to 0 (all (b d) 0 (tests (b d)))
   goes_on =
       ap (go_on (all (b d) (j d + 1) (left d))) answered
       ∙ sym (answer-append d.loop-j.tested (here d) (all (b d) (j d + 1) (left d))) ∙ whole d
@@ -187,7 +194,6 @@ pub loop-j-init : goal.loop-j-init
 loop-j-init c =
     let b = a c.before.before in (
       search rules,
-      search rules,
       ap (λ k. answer_to 0 (equation_tests (z b) (to_z w64 (of_z w64 (s b).args.first)) (s b).args.values.now (rows b) 0 k))
           (sub-zero (tests b)),
       λ i l. zero-le,
@@ -198,47 +204,54 @@ index_from-n-requires c =
     let st = s (b c) in
     (st.requires.t.0, rw (to_z-of_z st.ranges.first) st.requires.t.1, omega (arith, below c, st.requires.t.2))
 
-pub equations_at-answer-requires : goal.equations_at-answer-requires
-equations_at-answer-requires c =
-    let d = (goal.at.equations_at-answer-requires c).In-loop-j in
+pub equations_at-requires : goal.equations_at-requires
+equations_at-requires c =
+    let d = (goal.at.equations_at-requires c).In-loop-j in
     let st = s (b d) in record {
       equations_le_most_equations = (
         equations-few (b d),
         search rules,
-        omega (arith, d.loop-j.invariant.1, below d, equations-few (b d), st.requires.t.2),
+        omega (arith, d.loop-j.invariant.0, below d, equations-few (b d), st.requires.t.2),
       );
       most_equations_in_bounds = (search rules, omega (arith, below d, st.requires.t.2));
     }
 
+pub returns-in_err-finding : goal.returns-in_err-finding
+returns-in_err-finding c =
+    let e = (goal.at.returns-in_err-finding c).After-index_from-n in
+    let f = (goal.at.returns-in_err-finding c).In-loop-j in
+    let p = err_from_is_err_and c.from_residual.result c.from_residual.ensures.1 in
+    rw (p.1, p.2)
+    (sym (refused-stays c.in_err-finding.field-0.0 (all (b f) (j f + 1) (left f)))
+    ∙ goes_on e (Err c.in_err-finding.field-0.0) c.in_err-finding.ensures
+    ∙ ap (λ k. answer_to 0 (all (b f) 0 ((s (b f)).args.vectors - k))) (span-is (b f)))
+
 pub returns-in_default : goal.returns-in_default
 returns-in_default c =
-    let e = (goal.at.returns-in_default c).After-equations_at-answer in
-    sym (stays e.equations_at-answer.result (all (b (d e)) (j (d e) + 1) (left (d e))) c.in_default.not-Fits)
-    ∙ goes_on e
-    ∙ ap (λ k. answer_to 0 (all (b (d e)) 0 ((s (b (d e))).args.vectors - k))) (span-is (b (d e)))
-
-pub overflow_add-j : goal.overflow_add-j
-overflow_add-j c = let f = d (goal.at.overflow_add-j c).After-equations_at-answer in omega (arith, below f, (s (b f)).requires.t.2)
-
-pub loop-j-smaller : goal.loop-j-smaller
-loop-j-smaller c = let f = d (goal.at.loop-j-smaller c).After-equations_at-answer in omega (arith, below f)
+    let e = (goal.at.returns-in_default c).After-index_from-n in
+    let f = (goal.at.returns-in_default c).In-loop-j in
+    sym (stays c.in_ok-finding.finding (all (b f) (j f + 1) (left f)) c.in_default.not-Fits)
+    ∙ goes_on e (Ok c.in_ok-finding.finding) c.in_ok-finding.ensures
+    ∙ ap (λ k. answer_to 0 (all (b f) 0 ((s (b f)).args.vectors - k))) (span-is (b f))
 
 pub loop-j-preserved : goal.loop-j-preserved
 unfolding answer_of go_on
 loop-j-preserved c =
-    let e = (goal.at.loop-j-preserved c).After-equations_at-answer in
-    let f = d e in
+    let e = (goal.at.loop-j-preserved c).After-index_from-n in
+    let f = (goal.at.loop-j-preserved c).In-loop-j in
     let k = c.in-Fits.k in
     let tested = f.loop-j.tested in
-    let told : e.equations_at-answer.result ≡ Fits k = c.in-Fits.is in
-    let found : answer_to tested (here f) ≡ fits k = sym (answered e) ∙ ap answer_of told in
+    let finding = c.in_ok-finding.finding in
+    let told : finding ≡ Fits k = c.in-Fits.is in
+    let found : answer_to tested (here f) ≡ fits k =
+    sym (answered e (Ok finding) c.in_ok-finding.ensures) ∙ ap (λ r. answer_of (Ok r)) told in
     let count = answer-count tested k (here f) found in
     let equations = (s (b f)).args.sizes.equations in
     let more : length (here f) ≡ equations = row-tests-count _ _ _ _ _ 1 (rows (b f)) ∙ length-rows_of _ _ in (
-      omega (arith, below f),
-      omega (arith, count, more, f.loop-j.invariant.1, equations-few (b f)),
+      omega (arith, count, more, f.loop-j.invariant.0, equations-few (b f)),
       simp (to_z-of_z {w = w64} (s (b f)).ranges.first)
-          (sym (ap (λ r. go_on (all (b f) (j f + 1) (left f)) (answer_of r)) told) ∙ goes_on e),
+          (sym (ap (λ r. go_on (all (b f) (j f + 1) (left f)) (answer_of (Ok r))) told)
+          ∙ goes_on e (Ok finding) c.in_ok-finding.ensures),
       λ i l.
           omega (
             arith,
@@ -254,5 +267,5 @@ returns c =
     let b = (goal.at.returns c).After-span-span in
     let none_left : tests b - c.loop-j.j ≡ 0 = omega (arith, c.loop-j-test.false) in
     sym (ap (λ k. answer_to c.loop-j.tested (all b c.loop-j.j k)) none_left)
-    ∙ (simp (to_z-of_z {w = w64} (s b).ranges.first) at c.loop-j.invariant.2)
+    ∙ (simp (to_z-of_z {w = w64} (s b).ranges.first) at c.loop-j.invariant.1)
     ∙ ap (λ k. answer_to 0 (all b 0 ((s b).args.vectors - k))) (span-is b)

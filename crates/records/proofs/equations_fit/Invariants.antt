@@ -11,10 +11,7 @@ use Rattle.records.proofs.equations_fit.Given as goal
 
 abbrev pub invariant-loop-j : goal.invariant-loop-j
 invariant-loop-j l =
-    (l.j ≤ l.tests) × (l.tested ≤ 6 * l.j)
+    (l.tested ≤ 6 * l.j)
     × (answer_to l.tested (equation_tests (the_sizes_of l.sizes) l.first l.values (rows_of l.sizes.equations l.rows) l.j (l.tests - l.j))
     ≡ answer_to 0 (equation_tests (the_sizes_of l.sizes) l.first l.values (rows_of l.sizes.equations l.rows) 0 l.tests))
     × ((i : ℕ) → i < l.equations → l.j ≤ get_or l.formed i 0)
-
-abbrev pub decreases-loop-j : goal.decreases-loop-j
-decreases-loop-j l = l.tests - l.j

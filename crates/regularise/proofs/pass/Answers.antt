@@ -18,10 +18,6 @@ slice_bounds-put-end-in-loop-at g c =
     let p = passed _ _ _ _ c.loop-at.invariant.1 (omega arith) (omega arith) _ _ _ c.piece-passed.ensures in
     sym (length-take-le _ _ (omega (arith, p.written)))
 
-pub returns-then-not-put : goal.returns-then-not-put
-returns-then-not-put g c =
-    (passed _ _ _ _ c.loop-at.invariant.1 (omega arith) (omega arith) _ _ _ c.piece-passed.ensures).right
-
 pub loop-at-smaller : goal.loop-at-smaller
 loop-at-smaller g c =
     let p = passed _ _ _ _ c.loop-at.invariant.1 (omega arith) (omega arith) _ _ _ c.piece-passed.ensures in

@@ -4,4 +4,4 @@ use Rattle.batches.specs.PieceCalls.{stream_check}
 use Rattle.regularise.proofs.pass_all.Given as goal
 
 abbrev pub invariant-loop : goal.invariant-loop
-invariant-loop g l = stream_check l.passed.stream l.held ≡ 0
+invariant-loop g l = stream_check l.stream l.held ≡ 0

@@ -1,94 +1,77 @@
--- `replays::make_step` meets its contract: each kind is one case of the step.
+-- `replays::make_step` meets its contract: each step that the numbers can say is one case.
 -- Assumes nothing.
-use mathlib.Core.Path.{◌≡◌, refl, sym, ◌∙◌, ap}
-use mathlib.Core.List.{List}
-use Prim.Native.Nat.{ℕ, zero, suc, ◌≤◌}
-use mathlib.Core.Logic.{◌≢◌}
-use Rattle.lists.specs.Tests.{true-T}
-use native.Mathlib.Omega.{arith}
-use lib.IntN.{ℤ}
-use Rattle.reduction.specs.Progress.{state_of}
-use Rattle.log_steps.specs.Logs.{change_of, change_of_kind, changed_if}
-use Rattle.replays.specs.Given.{counted-passes, counted-fails}
-use Rattle.log_steps.specs.StoreChanges.{Begun, stepped_same, given-none}
+use mathlib.Core.Path.{refl, ap}
+use borrow.Author.Rules.{rules}
+use Rattle.std.proofs.lemmas.Result.{err_from_is_err_and}
+use Rattle.polynomials.specs.Content.{read_back}
+use Rattle.refusals.specs.Refusals.{number_of}
+use Rattle.reduction.specs.Progress.{answer_of, state_of}
+use Rattle.log_steps.specs.Logs.{multiplier_g, multiplier_h, change_of}
+use Rattle.replays.specs.Given.{length-g, length-h}
+use Rattle.log_steps.specs.StoreChanges.{stepped_same, given-changed, given-none}
 use Rattle.log_steps.proofs.StoreChanges.{refused-here}
 use Rattle.replays.proofs.make_step.Goals as goal
-use Rattle.replays.proofs.make_step.Goals.{After-place_at-kind, Start}
 
--- neither of the first two kinds
-two : (k : ℕ) → k ≢ 0 → k ≢ 1 → 2 ≤ k
-two zero a b = absurd (a refl)
-two (suc zero) a b = absurd (b refl)
-two (suc (suc k)) a b = omega arith
+pub combine_rows-requires-clause-g_len : goal.combine_rows-requires-clause-g_len
+unfolding multiplier_g multiplier_h
+combine_rows-requires-clause-g_len c =
+    let x = c.args.x.now in
+    let read = c.in_ok-step.ensures in
+    let said = rw c.in-Combination.is at read in
+    (length-g x c.requires.x_len, said.1.1, length-h x c.requires.x_len, said.1.2)
 
--- the kind
-module _ (c : After-place_at-kind) where
-  abbrev start : Start
-  start = (goal.at.After-place_at-kind c).Start
+pub returns-in_err-step : goal.returns-in_err-step
+returns-in_err-step c =
+    let exit = err_from_is_err_and c.from_residual.result c.from_residual.ensures.1 in
+    let wrong = c.in_err-step.ensures in
+    rw (exit.1, exit.2) record {
+      left = c.args.p;
+      stepped = stepped_same refl (ap (λ r. answer_of (number_of r) c.args.p) wrong.0)
+          (given-none c.args.span (state_of c.args.rows.now c.args.relations.now c.args.p) (change_of c.args.x.now) wrong.1)
+          (refused-here c.args.span c.requires.ready.0 c.requires.ready.1);
+    }
 
-  abbrev x : List ℤ
-  x = start.args.x.now
+pub returns-in-Exchange : goal.returns-in-Exchange
+returns-in-Exchange c =
+    let relations = c.args.relations.now in
+    let read = c.in_ok-step.ensures in
+    let said = rw c.in-Exchange.is at read in
+    let came = c.exchange_rows.ensures c.args.span relations c.requires.ready.0 in
+    record { left = came.left; stepped = stepped_same refl refl (given-changed c.args.span (state_of c.args.rows.now relations c.args.p) (change_of c.args.x.now) _ said.0) came.stepped }
 
-  kind-is : change_of x ≡ change_of_kind c.place_at-kind.result x
-  kind-is =
-      counted-passes x (sym c.is_counted.ensures ∙ c.if-not-is_counted.false)
-      ∙ ap (λ k. change_of_kind k x) (sym c.place_at-kind.ensures)
+pub returns-in-Combination : goal.returns-in-Combination
+unfolding multiplier_g multiplier_h
+returns-in-Combination c =
+    let read = c.in_ok-step.ensures in
+    let said = rw c.in-Combination.is at read in
+    let came = rw (read_back c.in-Combination.d (search rules)) at (c.combine_rows.ensures c.args.span) in
+    record {
+      left = came.left;
+      stepped = stepped_same refl refl
+          (given-changed c.args.span (state_of c.args.rows.now c.args.relations.now c.args.p) (change_of c.args.x.now) _ said.0)
+          came.stepped;
+    }
 
-begun : (c : Start) → Begun c.args.rows.now c.args.p
-begun c =
-    record { few-rows = c.requires.ready.0.few-rows; rows-within = c.requires.ready.0.rows-within; unsettled = c.requires.ready.1 }
+pub returns-in-Raise : goal.returns-in-Raise
+returns-in-Raise c =
+    let relations = c.args.relations.now in
+    let read = c.in_ok-step.ensures in
+    let said = rw c.in-Raise.is at read in
+    let came = c.raise_row.ensures c.args.span relations c.requires.ready.0 in
+    record { left = came.left; stepped = stepped_same refl refl (given-changed c.args.span (state_of c.args.rows.now relations c.args.p) (change_of c.args.x.now) _ said.0) came.stepped }
 
-pub is_counted-requires : goal.is_counted-requires
-is_counted-requires c =
-    omega (arith, c.requires.x_len)
+pub returns-in-Lower : goal.returns-in-Lower
+returns-in-Lower c =
+    let relations = c.args.relations.now in
+    let read = c.in_ok-step.ensures in
+    let said = rw c.in-Lower.is at read in
+    let came = c.lower_row.ensures relations c.requires.ready.0 in
+    record { left = came.left; stepped = stepped_same refl refl (given-changed c.args.span (state_of c.args.rows.now relations c.args.p) (change_of c.args.x.now) _ said.0) came.stepped }
 
-pub returns-then-not-is_counted : goal.returns-then-not-is_counted
-returns-then-not-is_counted c =
-    stepped_same refl c.answer.ensures
-    (given-none c.args.span (state_of c.args.rows.now c.args.relations.now c.args.p) (change_of c.args.x.now)
-    (counted-fails c.args.x.now (sym c.is_counted.ensures ∙ c.if-not-is_counted.true)))
-    (refused-here c.args.span c.requires.ready.0 c.requires.ready.1)
-
-pub place_at-kind-requires : goal.place_at-kind-requires
-place_at-kind-requires c =
-    (omega (arith, c.requires.x_len), true-T _ (sym c.is_counted.ensures ∙ c.if-not-is_counted.false))
-
-pub exchange_given-requires : goal.exchange_given-requires
-exchange_given-requires c =
-    let s = start (goal.at.exchange_given-requires c).After-place_at-kind in (begun s, s.requires.x_len)
-
-pub returns-then-kind-eq0 : goal.returns-then-kind-eq0
-returns-then-kind-eq0 c =
-    let at = (goal.at.returns-then-kind-eq0 c).After-place_at-kind in
-    let s = start at in
-    stepped_same refl refl
-    (ap (changed_if s.args.span (state_of s.args.rows.now s.args.relations.now s.args.p))
-    (kind-is at ∙ ap (λ k. change_of_kind k (x at)) c.if-kind-eq0.true))
-    (c.exchange_given.ensures s.args.span s.args.relations.now s.requires.ready.0)
-
-pub combine_given-requires : goal.combine_given-requires
-combine_given-requires c =
-    let s = start (goal.at.combine_given-requires c).After-place_at-kind in (s.requires.ready.0, s.requires.ready.1, s.requires.x_len)
-
-pub returns-then-kind-eq1 : goal.returns-then-kind-eq1
-returns-then-kind-eq1 c =
-    let at = (goal.at.returns-then-kind-eq1 c).After-place_at-kind in
-    let s = start at in
-    stepped_same refl refl
-    (ap (changed_if s.args.span (state_of s.args.rows.now s.args.relations.now s.args.p))
-    (kind-is at ∙ ap (λ k. change_of_kind k (x at)) c.if-kind-eq1.true))
-    (c.combine_given.ensures s.args.span)
-
-pub row_given-requires : goal.row_given-requires
-row_given-requires c =
-    let at = (goal.at.row_given-requires c).After-place_at-kind in
-    let s = start at in
-    (begun s, s.requires.x_len, two at.place_at-kind.result c.if-kind-eq0.false c.if-kind-eq1.false, s.requires.ready.2, s.requires.ready.3)
-
-pub returns : goal.returns
-returns c =
-    let at = (goal.at.returns c).After-place_at-kind in
-    let s = start at in
-    stepped_same refl refl
-    (ap (changed_if s.args.span (state_of s.args.rows.now s.args.relations.now s.args.p)) (kind-is at))
-    (c.row_given.ensures s.args.relations.now s.requires.ready.0)
+pub returns-in-Drop : goal.returns-in-Drop
+returns-in-Drop c =
+    let relations = c.args.relations.now in
+    let read = c.in_ok-step.ensures in
+    let said = rw c.in-Drop.is at read in
+    let came = c.drop_row.ensures c.args.span relations c.requires.ready.0 in
+    record { left = came.left; stepped = stepped_same refl refl (given-changed c.args.span (state_of c.args.rows.now relations c.args.p) (change_of c.args.x.now) _ said.0) came.stepped }

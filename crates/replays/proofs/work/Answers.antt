@@ -1,6 +1,6 @@
 -- `replays::work` meets its contract: the steps, and then the end.
 -- Assumes nothing.
-use mathlib.Core.Path.{◌≡◌, ◌∙◌, ap, subst}
+use mathlib.Core.Path.{◌≡◌, refl, ◌∙◌, ap, subst}
 use mathlib.Core.List.{List}
 use Prim.Native.Nat.{ℕ, ◌+◌, ◌*◌, ◌-◌, ◌≤◌}
 use native.Mathlib.Omega.{arith}
@@ -8,6 +8,9 @@ use lib.IntN.{ℤ}
 use lib.ListN.{length, take, drop, length-drop}
 use lib.Seq.{length-take-le}
 use Rattle.rules.specs.Limits.{column_count}
+use Rattle.std.proofs.lemmas.Result.{err_from_is_err_and}
+use Rattle.refusals.specs.Refusals.{number-nonzero}
+use Rattle.reduction.specs.Answer.{run_answer}
 use Rattle.reduction.specs.Progress.{state_of}
 use Rattle.log_steps.specs.Logs.{step_length, numbers_in, ordered, log_need}
 use Rattle.replays.specs.Endings.{Ended}
@@ -35,25 +38,22 @@ module _ (c : Start) where
   unfolding numbers_in
   numbers-long = length-take-le column_count (drop (steps * step_length) log) (simp length-drop (omega (arith, room)))
 
-pub replay_steps-o-requires : goal.replay_steps-o-requires
-replay_steps-o-requires c =
-    let s = (goal.at.replay_steps-o-requires c).Start in record {
+pub replay_steps-requires : goal.replay_steps-requires
+replay_steps-requires c =
+    let s = (goal.at.replay_steps-requires c).Start in record {
       ready = s.requires.ready;
       steps_in_bounds = omega (arith, room s);
     }
 
-pub returns-then-o-ne0 : goal.returns-then-o-ne0
-returns-then-o-ne0 c =
-    let s = (goal.at.returns-then-o-ne0 c).Start in
-    work-refused (ordered s.args.m (numbers_in (steps s) (log s))) c.replay_steps-o.ensures c.if-o-ne0.true
-
-pub shape_of-rows-then-o-ne0 : goal.shape_of-rows-then-o-ne0
-shape_of-rows-then-o-ne0 c =
-    (returns-then-o-ne0 c).reached.rows-kept.same_length
-
-pub shape_of-relations-then-o-ne0 : goal.shape_of-relations-then-o-ne0
-shape_of-relations-then-o-ne0 c =
-    (returns-then-o-ne0 c).reached.relations-kept.same_length
+pub returns-in_err-p : goal.returns-in_err-p
+returns-in_err-p c =
+    let s = (goal.at.returns-in_err-p c).Start in
+    let exit = err_from_is_err_and c.from_residual.result c.from_residual.ensures.1 in
+    let came = c.in_err-p.ensures in
+    rw (exit.1, exit.2) record {
+      left = came.left;
+      worked = work-refused (ordered s.args.m (numbers_in (steps s) (log s))) came.replayed (number-nonzero c.in_err-p.field-0.0);
+    }
 
 pub overflow_mul-from : goal.overflow_mul-from
 overflow_mul-from c =
@@ -78,7 +78,7 @@ slice_bounds-finish-end c =
 pub finish-requires : goal.finish-requires
 finish-requires c =
     let s = (goal.at.finish-requires c).Start in
-    let made = c.replay_steps-o.ensures in
+    let made = c.in_ok-p.ensures.replayed in
     let width : steps s * step_length + column_count - steps s * step_length ≡ column_count = omega arith in (
       record { few-rows = made.reached.ready.few-rows; rows-within = made.reached.ready.rows-within; unsettled = made.unsettled },
       s.requires.m_le_column_count.0,
@@ -88,19 +88,15 @@ finish-requires c =
 pub returns : goal.returns
 returns c =
     let s = (goal.at.returns c).Start in
-    let o = c.replay_steps-o.result in
-    let rows = c.replay_steps-o.new.rows in
-    let relations = c.replay_steps-o.new.relations in
+    let p = c.in_ok-p.p in
+    let rows = c.replay_steps.new.rows in
+    let relations = c.replay_steps.new.relations in
+    let made = c.in_ok-p.ensures.replayed in
     let width : steps s * step_length + column_count - steps s * step_length ≡ column_count = omega arith in
-    work-ended (ordered s.args.m (numbers_in (steps s) (log s))) c.replay_steps-o.ensures c.if-o-ne0.false
-    (subst (λ l. Ended rows relations o.progress c.finish.result (ordered s.args.m l (state_of rows relations o.progress)))
-    (numbers-are s (steps s * step_length + column_count - steps s * step_length) width)
-    (c.finish.ensures relations c.replay_steps-o.ensures.reached.ready))
-
-pub shape_of-rows : goal.shape_of-rows
-shape_of-rows c =
-    (returns c).reached.rows-kept.same_length
-
-pub shape_of-relations : goal.shape_of-relations
-shape_of-relations c =
-    (returns c).reached.relations-kept.same_length
+    record {
+      left = p;
+      worked = work-ended (ordered s.args.m (numbers_in (steps s) (log s))) made refl
+          (subst (λ l. Ended rows relations p (run_answer c.finish.result p) (ordered s.args.m l (state_of rows relations p)))
+          (numbers-are s (steps s * step_length + column_count - steps s * step_length) width)
+          (c.finish.ensures relations made.reached.ready));
+    }

@@ -29,4 +29,6 @@ loop-next-preserved c =
     (omega arith, omega arith, passed _ factors c.loop-next.next (omega arith) c.if-factors-next.false c.loop-next.invariant.2)
 
 pub returns : goal.returns
-returns c = c.loop-next.invariant
+returns c =
+    let e : c.loop-next.next ≡ length c.args.factors.now = omega arith in
+    (omega arith, omega arith, subst (λ k. Run (get_or c.args.factors.now c.args.from 0) (drop c.args.from c.args.factors.now) (drop k c.args.factors.now)) e c.loop-next.invariant.2)

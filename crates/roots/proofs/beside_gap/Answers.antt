@@ -38,14 +38,14 @@ module _ (c : Joined-high-eq-PAST) where
         | else-high-eq-PAST w ↦ subst (RootsBelow p) (sym w.limit-is) all_small
       ]
 
-  paired : Paired p start.args.a c.larger_of-few.result
+  paired : Paired p start.args.a c.max-few.result
   paired =
-      gap-paired p start.args.a start.args.low 16384 at_high.high_end-high.result c.larger_of-few.result
+      gap-paired p start.args.a start.args.low 16384 at_high.high_end-high.result c.max-few.result
       start.requires.6
       at_high.high_end-high.ensures.1
       at_high.high_end-high.ensures.0
-      c.larger_of-few.ensures.0
-      (omega (arith, c.larger_of-few.ensures.1))
+      (omega (arith, c.max-few.ensures))
+      (omega (arith, c.max-few.ensures))
 
 pub overflow_add-a : goal.overflow_add-a
 overflow_add-a c =

@@ -177,12 +177,6 @@ offset_bounds-v-i-then-x-y-2 c = omega (arith, c.loop-i.invariant.within)
 pub bounds-v-i-then-x-y-2 : goal.bounds-v-i-then-x-y-2
 bounds-v-i-then-x-y-2 c = omega (arith, c.loop-i.invariant.within)
 
-pub overflow_add-i : goal.overflow_add-i
-overflow_add-i c = omega (arith, c.loop-i.invariant.within)
-
-pub loop-i-smaller : goal.loop-i-smaller
-loop-i-smaller c = omega (arith, c.loop-i-test.true)
-
 pub loop-i-preserved : goal.loop-i-preserved
 loop-i-preserved c =
     let head = c.before.before.before.before in

@@ -18,6 +18,3 @@ pub record Inserting (n : ℕ) (whole v : List ℤ) (x : ℤ) (i : ℕ) : Type 0
 
 abbrev pub invariant-loop-i : goal.invariant-loop-i
 invariant-loop-i l = Inserting l.n (insert l.r (take l.n l.initial.v)) l.v l.x l.i
-
-abbrev pub decreases-loop-i : goal.decreases-loop-i
-decreases-loop-i l = l.n - l.i

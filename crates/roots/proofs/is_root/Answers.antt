@@ -1,7 +1,10 @@
 -- `roots::is_root` meets its contract. Past C only the zero polynomial vanishes.
 -- Assumes nothing.
 use mathlib.Core.Path.{◌≡◌, sym, ◌∙◌, ap}
-use native.Mathlib.Nat.{pos_of_ne-zero}
+use Prim.Native.Nat.{◌<◌}
+use native.Mathlib.Omega.{arith}
+use lib.ListN.{length}
+use Rattle.std.proofs.lemmas.Grind.{common_steps}
 use borrow.Author.Tests.{leb-true, leb-false}
 use lib.Dec.{leb}
 use lib.IntN.{nat_abs}
@@ -19,12 +22,13 @@ tested c = rw (to_z-of_z c.ranges.r) at c.within_bound.ensures
 
 pub vanishes-requires : goal.vanishes-requires
 vanishes-requires c =
-    let some = top-last c.args.p.now (pos_of_ne-zero c.if-p-eq0.false) in
+    let full : 0 < length c.args.p.now = grind (arith, common_steps) in
+    let some = top-last c.args.p.now full in
     (c.requires.0, c.requires.1, some, rw (to_z-of_z c.ranges.r) (leb-true (nat_abs c.args.r) bound (sym (tested c.before) ∙ c.if-within_bound.true)))
 
-pub returns-then-p-eq0 : goal.returns-then-p-eq0
+pub returns-then-is_empty : goal.returns-then-is_empty
 unfolding is_zero_ℤ
-returns-then-p-eq0 c = sym (ap is_zero_ℤ (eval-empty c.args.p.now c.args.r c.if-p-eq0.true))
+returns-then-is_empty c = let none : length c.args.p.now ≡ 0 = grind (arith, common_steps) in sym (ap is_zero_ℤ (eval-empty c.args.p.now c.args.r none))
 
 pub returns-then-within_bound : goal.returns-then-within_bound
 returns-then-within_bound c = rw (to_z-of_z c.ranges.r) at c.vanishes.ensures

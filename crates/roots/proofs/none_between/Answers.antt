@@ -30,8 +30,8 @@ module _ (c : After-magnitude-size) where
   size_is : c.magnitude-size.result ≡ nat_abs (get_or (p head) (head.loop-i.i - 1) (pos 0))
   size_is = c.magnitude-size.ensures ∙ ap nat_abs (read_back (get_or (p head) (head.loop-i.i - 1) (pos 0)) c.magnitude-arg-in-loop-i-1.given)
 
-pub bounds-p-i : goal.bounds-p-i
-bounds-p-i c = c.requires.1.0
+pub bounds-p-top : goal.bounds-p-top
+bounds-p-top c = c.requires.1.0
 
 pub loop-i-init : goal.loop-i-init
 loop-i-init c =
@@ -80,10 +80,11 @@ loop-i-preserved c =
     ⊎ (c.distance-least.result ≡ 0)) (size_is at_size) c.distance-least.ensures in
     let ranged = subst (λ k. Ranged (p head) s.args.n s.args.m k e f) more head.loop-i.invariant.2 in (
       omega (arith, head.loop-i.invariant.0),
-      c.capped-most.ensures.0,
-      ranged-next (p head) s.args.n s.args.m i e f c.distance-least.result c.capped-most.result s.requires.0 s.requires.4
+      omega (arith, c.min-most.ensures),
+      ranged-next (p head) s.args.n s.args.m i e f c.distance-least.result c.min-most.result s.requires.0 s.requires.4
           (omega (arith, head.loop-i.invariant.0)) ranged apart
-          (λ h. c.capped-most.ensures.1 (omega arith) ∙ ap (λ k. f * s.args.m + k) (size_is at_size)),
+          (λ h. let sum : c.min-most.result ≡ f * s.args.m + at_size.magnitude-size.result = omega (arith, c.min-most.ensures) in
+          sum ∙ ap (λ k. f * s.args.m + k) (size_is at_size)),
     )
 
 pub returns : goal.returns

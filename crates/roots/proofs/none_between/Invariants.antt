@@ -7,6 +7,3 @@ use Rattle.roots.proofs.none_between.Given as goal
 
 abbrev pub invariant-loop-i : goal.invariant-loop-i
 invariant-loop-i l = (l.i < length l.p) × (l.most ≤ 268435456) × Ranged l.p l.n l.m l.i l.least l.most
-
-abbrev pub decreases-loop-i : goal.decreases-loop-i
-decreases-loop-i l = l.i

@@ -66,13 +66,13 @@ tried-requires c =
       s.requires.1,
       linear-top (p s) s.requires.2,
       simp (candidate s, to_z-of_z (candidate-fits s)) (candidate-size s),
-      listed-held [] c.no_roots.ensures,
-      rw (held_of [] c.no_roots.ensures) (le_trans (try_root-one _ _) (lit≤ tt)),
+      listed-held [] c.empty.ensures,
+      rw (held_of [] c.empty.ensures) (le_trans (try_root-one _ _) (lit≤ tt)),
     )
 
 pub returns : goal.returns
 returns c =
     let s = c.before.before.before.before in
     (simp (candidate s, to_z-of_z (candidate-fits s)) at c.tried.ensures)
-    ∙ ap (λ l. listed (try_root (p s) (neg_ℤ (quot_z (a s) (b s))) l)) (held_of [] c.no_roots.ensures)
+    ∙ ap (λ l. listed (try_root (p s) (neg_ℤ (quot_z (a s) (b s))) l)) (held_of [] c.empty.ensures)
     ∙ ap listed (linear-tried (p s) s.requires.2)

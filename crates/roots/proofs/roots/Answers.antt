@@ -43,4 +43,4 @@ searched-requires c =
 pub returns-then-n-eq0 : goal.returns-then-n-eq0
 returns-then-n-eq0 c =
     let p = c.args.p.now in
-    c.no_roots.ensures ∙ ap listed (sym (roots-constant p (sym c.degree-n.ensures ∙ c.if-n-eq0.true)))
+    c.empty.ensures ∙ ap listed (sym (roots-constant p (sym c.degree-n.ensures ∙ c.if-n-eq0.true)))

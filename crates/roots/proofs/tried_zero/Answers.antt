@@ -21,4 +21,4 @@ pub returns-else-p-eq0 : goal.returns-else-p-eq0
 returns-else-p-eq0 c =
     let e = eval-at-zero c.args.p.now in
     let none = false_of (is_zero_ℤ (eval c.args.p.now (pos 0))) (λ t. nonzero-bits c.if-p-eq0.false (sym e ∙ is_zero_ℤ-sound _ t)) in
-    c.no_roots.ensures ∙ ap listed (sym (try_root-no c.args.p.now (pos 0) [] none))
+    c.empty.ensures ∙ ap listed (sym (try_root-no c.args.p.now (pos 0) [] none))

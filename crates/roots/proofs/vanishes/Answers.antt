@@ -72,8 +72,8 @@ module _ (c : At-loop-i) where
 size_is : (c : After-magnitude) → c.magnitude.result ≡ nat_abs (next c.before.before.before)
 size_is c = simp (next-is c.before.before.before, to_z-of_z (next_fits c.before.before.before)) at c.magnitude.ensures
 
-pub bounds-p-i : goal.bounds-p-i
-bounds-p-i c = c.requires.2.0
+pub bounds-p-top : goal.bounds-p-top
+bounds-p-top c = c.requires.2.0
 
 pub loop-i-init : goal.loop-i-init
 loop-i-init c =

@@ -9,6 +9,3 @@ use Rattle.roots.proofs.vanishes.Given as goal
 
 abbrev pub invariant-loop-i : goal.invariant-loop-i
 invariant-loop-i l = (l.i < length l.p) × (nat_abs l.value ≤ 4294967296) × (eval (drop l.i l.p) l.r ≡ l.value)
-
-abbrev pub decreases-loop-i : goal.decreases-loop-i
-decreases-loop-i l = l.i

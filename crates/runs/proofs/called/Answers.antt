@@ -1,60 +1,54 @@
 -- `runs::called` meets its contract.
 -- Assumes nothing.
-use mathlib.Core.Path.{◌≡◌, sym, ◌∙◌}
-use mathlib.Core.List.{List}
-use lib.IntN.{ℤ}
-use Rattle.rules.specs.Elimination.{Side}
-use Rattle.rules.specs.Stores.{Sizes, check_stores_of}
+use mathlib.Core.Path.{◌≡◌, sym, ◌∙◌, ap}
+use Rattle.rules.specs.Stores.{Sizes, span, check_stores_of}
 use Rattle.stores.specs.Validity.{the_sizes_of}
 use Rattle.sides.specs.Lent.{side_of}
-use Rattle.runs.specs.CallLaws.{Checked, checked, final-run, call-run, call-refused}
+use Rattle.std.proofs.lemmas.Result.{err_from_is_err_and}
+use Rattle.reduction.specs.Progress.{start_progress, final_answer, outcome-run}
+use Rattle.runs.specs.CallLaws.{result_after_of, Checked, checked, final-run, final-in, call-run, call-refused}
 use Rattle.runs.proofs.called.Goals as goal
-use Rattle.runs.proofs.called.Goals.{After-checked_run-o, Else-refusal-ne0, Start}
+use Rattle.runs.proofs.called.Goals.{In_ok-check_stores}
+
+pub returns-in_err-check_stores : goal.returns-in_err-check_stores
+returns-in_err-check_stores c =
+    let exit = err_from_is_err_and c.from_residual.result c.from_residual.ensures.1 in
+    rw (exit.1, exit.2)
+    (call-refused (side_of c.args.side) (the_sizes_of c.args.sizes) c.args.count c.args.rows.now c.args.relations.now c.in_err-check_stores.field-0.0
+    c.in_err-check_stores.ensures)
 
 -- the stores have passed the checks
-passes : (c : Else-refusal-ne0)
-    → check_stores_of (the_sizes_of c.args.sizes) c.args.count c.args.rows.now c.args.relations.now ≡ 0
-passes c = sym c.check_stores-refusal.ensures ∙ c.if-refusal-ne0.false
-
-pub returns-then-refusal-ne0 : goal.returns-then-refusal-ne0
-returns-then-refusal-ne0 c =
-    call-refused (side_of c.args.side) (the_sizes_of c.args.sizes) c.args.count c.args.rows.now c.args.relations.now
-    c.refused.result c.check_stores-refusal.result c.if-refusal-ne0.true c.check_stores-refusal.ensures
-    c.refused.ensures
-
-pub checked_run-o-requires : goal.checked_run-o-requires
-checked_run-o-requires c = passes (goal.at.checked_run-o-requires c).Else-refusal-ne0
-
--- the run has come to its end
-module _ (c : After-checked_run-o) where
-  abbrev start : Start
-  start = (goal.at.After-checked_run-o c).Start
-
-  abbrev side : Side
-  side = side_of start.args.side
-
+module _ (c : In_ok-check_stores) where
   abbrev z : Sizes
-  z = the_sizes_of start.args.sizes
+  z = the_sizes_of c.args.sizes
 
-  abbrev rows : List ℤ
-  rows = start.args.rows.now
+  passes : check_stores_of z c.args.count c.args.rows.now c.args.relations.now ≡ 0
+  passes = sym c.in_ok-check_stores.ensures
 
-  abbrev relations : List ℤ
-  relations = start.args.relations.now
+  stores : Checked z c.args.count c.args.rows.now c.args.relations.now
+  stores = checked z c.args.count c.args.rows.now c.args.relations.now passes
 
-  stores : Checked z start.args.count rows relations
-  stores = checked z start.args.count rows relations (passes (goal.at.After-checked_run-o c).Else-refusal-ne0)
+pub checked_run-run-requires : goal.checked_run-run-requires
+checked_run-run-requires c = passes (goal.at.checked_run-run-requires c).In_ok-check_stores
 
 pub ended-requires : goal.ended-requires
 ended-requires c =
-    let run = (goal.at.ended-requires c).After-checked_run-o in (
-      (stores run).sizes,
-      final-run (side run) (z run) (start run).args.count (rows run) (relations run) _ _ run.checked_run-o.result (stores run)
-          run.checked_run-o.ensures,
+    let s = stores (goal.at.ended-requires c).In_ok-check_stores in
+    let equations = c.args.sizes.equations in
+    let run = c.checked_run-run.result in (
+      s.sizes,
+      final-in (start_progress equations 0) run
+          (final-run (side_of c.args.side) (the_sizes_of c.args.sizes) c.args.count c.args.rows.now c.args.relations.now _ _ (final_answer equations run) s
+          c.checked_run-run.ensures),
     )
 
 pub returns : goal.returns
 returns c =
-    let run = (goal.at.returns c).After-checked_run-o in
-    call-run (side run) (z run) (start run).args.count (rows run) (relations run) _ _ run.checked_run-o.result c.ended.result
-    (passes (goal.at.After-checked_run-o run).Else-refusal-ne0) run.checked_run-o.ensures (c.ended.ensures _)
+    let side = side_of c.args.side in
+    let sizes = the_sizes_of c.args.sizes in
+    let equations = c.args.sizes.equations in
+    let run = c.checked_run-run.result in
+    call-run side sizes c.args.count c.args.rows.now c.args.relations.now _ _ (final_answer equations run) c.ended.result
+    (passes (goal.at.returns c).In_ok-check_stores) c.checked_run-run.ensures
+    (c.ended.ensures c.checked_run-run.new.relations
+    ∙ ap (result_after_of side (span sizes)) (outcome-run c.checked_run-run.new.rows c.checked_run-run.new.relations run (start_progress equations 0)))

@@ -10,10 +10,14 @@ use Rattle.rules.specs.Rows.{Row, Relation}
 use Rattle.rules.specs.Stores as Stores
 use Rattle.stores.specs.Validity.{the_sizes_of}
 use Rattle.sides.specs.StoreStates.{kept_same}
-use Rattle.solutions.specs.AnswerStores.{solutions_of, left-unlisted, left-refused, left-listed}
+use Rattle.solutions.specs.AnswerStores.{Made, solutions_of, left-unlisted, left-refused, left-listed}
 use Rattle.solutions.specs.TrailingCopies.{cleared}
 use Rattle.constant_rows.specs.ListLengths.{list_need}
-use Rattle.solutions.specs.SolutionCalls.{result_of}
+use Rattle.solutions.specs.SolutionCalls.{result_of, unlisted}
+use Rattle.solutions.specs.SolutionAnswers.{list_for_of}
+use Rattle.std.proofs.Common.{◌∙◌, ap}
+use Rattle.refusals.specs.Refusals.{number_of, number-nonzero}
+use Rattle.constant_rows.specs.ConstantStores.{told-fine, told-stopped, made-reports, passed-reports}
 use Rattle.solutions.proofs.answer_for.Goals as goal
 use Rattle.solutions.proofs.answer_for.Goals.{Else-not-reached, Start}
 
@@ -52,9 +56,9 @@ module _ (d : Else-not-reached) where
   found : s.args.reached.found ≡ true
   found = not-false _ d.if-not-reached.false
 
-pub list_for-listed-requires : goal.list_for-listed-requires
-list_for-listed-requires c =
-    let d = (goal.at.list_for-listed-requires c).Else-not-reached in
+pub list_for-requires : goal.list_for-requires
+list_for-requires c =
+    let d = (goal.at.list_for-requires c).Else-not-reached in
     record {
       relations_value = (s d).requires.relations_value.0;
       last_le_largest_index = ((s d).requires.relations_value.1 (found d), (s d).requires.matrix_need_in_bounds.0, (s d).requires.matrix_need_in_bounds.1, (s d).requires.matrix_need_in_bounds.2);
@@ -63,28 +67,37 @@ list_for-listed-requires c =
 pub clear-requires : goal.clear-requires
 clear-requires c =
     let s = s (goal.at.clear-requires c).Else-not-reached in
-    omega (arith, c.list_for-listed.ensures.kept.1.same_length, s.requires.matrix_need_in_bounds.1)
+    omega (arith, c.list_for.ensures.kept.1.same_length, s.requires.matrix_need_in_bounds.1)
 
-pub returns-then-refusal-ne0 : goal.returns-then-refusal-ne0
+pub returns-in-Err : goal.returns-in-Err
 unfolding result_of
-returns-then-refusal-ne0 c =
-    let d = (goal.at.returns-then-refusal-ne0 c).Else-not-reached in
-    let st = s d in record {
-      answer_left = left-refused (z st) (rows st) (relations st) c.unlisted-then-refusal-ne0.result (index st) c.list_for-listed.result.count st.args.list.now
-          c.list_for-listed.new.list c.clear.new.store c.list_for-listed.result.refusal c.list_for-listed.ensures.reports c.if-refusal-ne0.true (refusal st)
-          st.args.reached.found (found d) c.unlisted-then-refusal-ne0.ensures
-          (cleared list_need st.args.list.now c.list_for-listed.new.list c.clear.new.store c.list_for-listed.ensures.kept.1 c.clear.ensures);
-      kept = c.list_for-listed.ensures.kept.0;
+returns-in-Err c =
+    let d = (goal.at.returns-in-Err c).Else-not-reached in
+    let st = s d in
+    let r = c.in-Err.refusal in
+    let j = list_for_of (z st) (index st) (rows st) (relations st) in
+    let stopped = told-stopped (λ listed l. Made listed st.args.list.now c.list_for.new.list l) j c.list_for.result r c.list_for.ensures.reports c.in-Err.is in
+    record {
+      answer_left = left-refused (z st) (rows st) (relations st) c.unlisted-in-Err.result (index st) 0 st.args.list.now c.list_for.new.list c.clear.new.store
+          (number_of r) (passed-reports _ j _ stopped) (number-nonzero r) (refusal st) st.args.reached.found (found d)
+          (c.unlisted-in-Err.ensures ∙ ap (unlisted true) c.number.ensures)
+          (cleared list_need st.args.list.now c.list_for.new.list c.clear.new.store c.list_for.ensures.kept.1 c.clear.ensures);
+      kept = c.list_for.ensures.kept.0;
     }
 
-pub returns : goal.returns
+pub returns-in-Ok : goal.returns-in-Ok
 unfolding solutions_of
-returns c =
-    let d = (goal.at.returns c).Else-not-reached in
-    let st = s d in record {
+returns-in-Ok c =
+    let d = (goal.at.returns-in-Ok c).Else-not-reached in
+    let st = s d in
+    let n = c.in-Ok.listed in
+    let j = list_for_of (z st) (index st) (rows st) (relations st) in
+    let (l, made, facts) =
+    told-fine (λ listed l. Made listed st.args.list.now c.list_for.new.list l) j c.list_for.result n c.list_for.ensures.reports c.in-Ok.is in
+    record {
       answer_left = left-listed (z st) (rows st) (relations st)
-          (record { refusal = 0; begun = true; found = true; last = index st; count = c.list_for-listed.result.count }) (index st)
-          c.list_for-listed.result.count st.args.list.now c.list_for-listed.new.list c.list_for-listed.new.list c.list_for-listed.result.refusal c.list_for-listed.ensures.reports
-          c.if-refusal-ne0.false (refusal st) st.args.reached.found (found d) refl;
-      kept = c.list_for-listed.ensures.kept.0;
+          (record { refusal = 0; begun = true; found = true; last = index st; count = n }) (index st)
+          n st.args.list.now c.list_for.new.list c.list_for.new.list 0 (made-reports (Made n st.args.list.now c.list_for.new.list) j l made facts)
+          refl (refusal st) st.args.reached.found (found d) refl;
+      kept = c.list_for.ensures.kept.0;
     }

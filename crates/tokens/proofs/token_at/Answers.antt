@@ -1,12 +1,11 @@
 -- `tokens::token_at` meets its contract. The digits are read first; where the bytes go on after them, the token
 -- is a number or none.
 -- Assumes nothing.
-use Rattle.std.proofs.Common.{◌≡◌, ℕ, Bool, true, false, cond, ltb, List, length, drop, sym, refl, ap, ◌∙◌, arith, rules}
+use Rattle.std.proofs.Common.{◌≡◌, ℕ, Bool, true, false, cond, ltb, List, length, drop, sym, ap, ◌∙◌, arith, rules, Some, None}
 use lib.Seq.{slice}
-use Rattle.rules.specs.Numbers.{starts_right_of, fault}
+use Rattle.rules.specs.Numbers.{starts_right_of, got, fault}
 use Rattle.tokens.specs.Tokens.{token_answer}
-use Rattle.tokens.specs.Fields.{read_number_of, read_of, number_cut, number-refuses}
-use Rattle.tokens.specs.declared.Token.TheVariants.{Number, NoNumber}
+use Rattle.tokens.specs.Fields.{read_number_of, read_in, number_cut, number-fails}
 use Rattle.tokens.proofs.token_at.Goals as goal
 use Rattle.tokens.proofs.token_at.Goals.{After-starts_right-right}
 
@@ -40,19 +39,11 @@ module _ (d : After-starts_right-right) where
   cut t h e = number_cut _ _ _ _ _ d.digits_start-from.ensures d.digits_from-d.ensures.0 h
       ∙ ap (λ t. fault (cond t 4 3)) (right t e)
 
-pub no_number-requires : goal.no_number-requires
-no_number-requires c = tt
-
 pub returns-then-right : goal.returns-then-right
-returns-then-right c = number-refuses (λ z. omega arith)
-    (cut (goal.at.returns-then-right c).After-starts_right-right true c.if-end-bytes.true c.if-right.true) c.no_number.ensures
-
-pub no_number-requires-then-end-bytes : goal.no_number-requires-then-end-bytes
-no_number-requires-then-end-bytes c = tt
+returns-then-right c = number-fails (cut (goal.at.returns-then-right c).After-starts_right-right true c.if-end-bytes.true c.if-right.true)
 
 pub returns-then-end-bytes : goal.returns-then-end-bytes
-returns-then-end-bytes c = number-refuses (λ z. omega arith)
-    (cut (goal.at.returns-then-end-bytes c).After-starts_right-right false c.if-end-bytes.true c.if-right.false) c.no_number-then-end-bytes.ensures
+returns-then-end-bytes c = number-fails (cut (goal.at.returns-then-end-bytes c).After-starts_right-right false c.if-end-bytes.true c.if-right.false)
 
 pub read_token-requires : goal.read_token-requires
 read_token-requires c =
@@ -61,27 +52,21 @@ read_token-requires c =
       end_in_bounds = (omega arith, c.starts_right-right.ensures);
     }
 
-pub no_number-requires-in_default : goal.no_number-requires-in_default
-no_number-requires-in_default c = tt
-
 pub returns-in_default : goal.returns-in_default
 unfolding token_answer
 returns-in_default c =
     let a = (goal.at.returns-in_default c).After-starts_right-right in
-    let told : c.read_token.result ≡ NoNumber = c.in_default.is in
-    number-refuses (λ z. omega arith)
-    (sym c.read_token.ensures ∙ ap (λ k. token_answer k (drop (end a) (bytes a))) told)
-    c.no_number-in_default.ensures
+    let told : c.read_token.result ≡ None = c.in_default.is in
+    number-fails (sym c.read_token.ensures ∙ ap (λ k. token_answer k (drop (end a) (bytes a))) told)
 
 pub returns : goal.returns
-unfolding token_answer read_of
+unfolding token_answer read_in
 returns c =
     let a = (goal.at.returns c).After-starts_right-right in
-    let known : c.read_token.result ≡ Number c.in-Number.value = c.in-Number.is in
+    let known : c.read_token.result ≡ Some c.in-Some.value = c.in-Some.is in
     record {
       answer =
-          ap (λ v. read_of (bytes a) 0 v (end a)) (search rules)
+          ap (λ v. got v (drop (end a) (bytes a))) (search rules)
           ∙ sym (sym c.read_token.ensures ∙ ap (λ k. token_answer k (drop (end a) (bytes a))) known);
-      separator = λ z. omega arith;
-      unread = λ h. absurd (h refl);
+      separator = omega arith;
     }

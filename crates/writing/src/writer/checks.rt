@@ -1,54 +1,26 @@
 // The checks before a sheet is written: sizes with count and order (2), lengths (1), numbers (5) (SCOPE 3.31, 4.53).
 ghost use Rattle.std.specs.Prelude.{◌≡◌, eqb, length};
 ghost use Rattle.lists.specs.Tests.{every};
-ghost use Rattle.rules.specs.Sheets as Sheets;
 ghost use Rattle.rules.specs.SheetCalls.{different_columns_of, order_given, order_right_of, check_write_of};
+ghost use Rattle.refusals.specs.Refusals.{refusal_in};
 ghost use Rattle.stores.specs.Validity.{the_sizes_of};
+
+use refusals::Refusal;
 
 fn all_zero(numbers: &[usize]) -> bool
     ensures { result ≡ every (eqb 0) numbers.now }
 {
-    let mut i = 0;
-    while i < numbers.len() {
-        if numbers[i] != 0 {
-            return false;
-        }
-        i += 1;
-    }
-    true
-}
-
-fn contains(numbers: &[usize], c: usize) -> bool
-    ensures { result ≡ Sheets.contains c numbers.now }
-{
-    let mut i = 0;
-    while i < numbers.len() {
-        if numbers[i] == c {
-            return true;
-        }
-        i += 1;
-    }
-    false
+    numbers.iter().all(|n| *n == 0)
 }
 
 // Columns of 1..m, each once (SCOPE 4.53).
 pub fn different_columns(columns: &[usize], m: usize) -> bool
     ensures { result ≡ different_columns_of m columns.now }
 {
-    let mut i = 0;
-    while i < columns.len() {
-        let c = columns[i];
-        let next = i + 1;
-        if c < 1 {
+    for (i, c) in columns.iter().enumerate() {
+        if *c < 1 || m < *c || columns[i + 1..].contains(c) {
             return false;
         }
-        if m < c {
-            return false;
-        }
-        if contains(&columns[next..], c) {
-            return false;
-        }
-        i = next;
     }
     true
 }
@@ -57,14 +29,7 @@ pub fn different_columns(columns: &[usize], m: usize) -> bool
 fn columns_given(order: &[usize]) -> usize
     ensures { result ≡ length (order_given order.now) }
 {
-    let mut n = 0;
-    while n < order.len() {
-        if order[n] == 0 {
-            return n;
-        }
-        n += 1;
-    }
-    n
+    order.iter().position(|c| *c == 0).unwrap_or(order.len())
 }
 
 pub fn order_length(order: [usize; 4]) -> usize
@@ -88,14 +53,11 @@ pub fn check_write(
     sizes: stores::validity::Sizes,
     count: usize,
     order: [usize; 4],
-) -> u8
-    ensures { result ≡ check_write_of (the_sizes_of sizes) count order rows.now relations.now }
+) -> Result<(), Refusal>
+    ensures { refusal_in result ≡ check_write_of (the_sizes_of sizes) count order rows.now relations.now }
 {
-    if !stores::validity::sizes_right(sizes) {
-        return 2;
-    }
-    if !order_right(order, sizes.m) {
-        return 2;
+    if !stores::validity::sizes_right(sizes) || !order_right(order, sizes.m) {
+        return Err(Refusal::OutOfRange);
     }
     stores::validity::check_stores(rows, relations, sizes, count)
 }

@@ -1,15 +1,15 @@
 -- `differential::equations::equations_at` meets its contract. The loop's invariant: the first i equations are in the store, and the others
--- are read from `next`. The measure is their number.
+-- are read from `next`.
 -- Assumes nothing.
 use mathlib.Core.Path.{◌≡◌, ap, ◌∙◌}
 use Prim.Native.Nat.{◌+◌, ◌*◌, ◌-◌, ◌≤◌}
 use native.Mathlib.Nat.{le-add_right}
 use native.Mathlib.Omega.{arith}
-use borrow.Rule.Slice.PartMut.{mid_of, same_len_mid}
+use borrow.Rule.Slice.PartMut.{mid_of}
 use lib.ListN.{length}
 use Rattle.rules.specs.Limits.{row_length}
 use Rattle.rules.specs.Calls.{zeros}
-use Rattle.tokens.specs.Fields.{answer-fault, answer-got, refuses, gives}
+use Rattle.tokens.specs.Fields.{read-err, read-ok, read-within, fails-on, reads}
 use Rattle.reading.specs.Zeros.{length-zeros}
 use Rattle.reading.specs.Sections.{stored-begins, stored-ends, stored_refused, stored-part, stored-goes-on, rows_of-parts}
 use Rattle.differential.proofs.equations.equations_at.Goals as goal
@@ -46,41 +46,22 @@ slice_bounds-equation_at-start c = le-add_right _ row_length
 pub slice_bounds-equation_at-end : goal.slice_bounds-equation_at-end
 slice_bounds-equation_at-end c = rw c.loop-i.invariant.long (room c)
 
-pub equation_at-e-requires : goal.equation_at-e-requires
-equation_at-e-requires c = record {
+pub equation_at-requires : goal.equation_at-requires
+equation_at-requires c = record {
   at_in_bounds = (c.loop-i.invariant.within, c.requires.at_in_bounds.1);
-  row_value = part (goal.at.equation_at-e-requires c).In-loop-i;
+  row_value = part (goal.at.equation_at-requires c).In-loop-i;
 }
 
-pub no_part-requires : goal.no_part-requires
-no_part-requires c = tt
-
-pub shape_of-rows-then-e-ne0 : goal.shape_of-rows-then-e-ne0
-shape_of-rows-then-e-ne0 c =
-    let l = c.loop-i in
-    same_len_mid (l.i * row_length) (l.i * row_length + row_length - l.i * row_length) l.rows
-    c.equation_at-e.new.row
-    c.equation_at-e.auto.row ∙ l.invariant.long
-
-pub returns-then-e-ne0 : goal.returns-then-e-ne0
-returns-then-e-ne0 c =
-    refuses c.if-e-ne0.true
-    (stored_refused _ _ _ _ _ _ _ _ _ _ c.loop-i.invariant c.loop-i-test.true _
-    (answer-fault c.if-e-ne0.true c.equation_at-e.ensures))
-    c.no_part.ensures
-
-pub overflow_add-i : goal.overflow_add-i
-overflow_add-i c = omega (arith, c.requires.equations_le_most_equations.0, c.loop-i-test.true)
-
-pub loop-i-smaller : goal.loop-i-smaller
-loop-i-smaller c = omega (arith, c.loop-i-test.true)
+pub returns-in_err-next : goal.returns-in_err-next
+returns-in_err-next c =
+    fails-on _ c.in_err-next.field-0.0 c.from_residual.ensures.1
+    (stored_refused _ _ _ _ _ _ _ _ _ _ c.loop-i.invariant c.loop-i-test.true _ (read-err c.in_err-next.ensures))
 
 pub loop-i-preserved : goal.loop-i-preserved
 loop-i-preserved c =
     stored-goes-on _ _ _ _ _ _ _ _ _ _ c.loop-i.invariant c.loop-i-test.true _ _
-    (c.equation_at-e.auto.row ∙ ap length (part (goal.at.loop-i-preserved c).In-loop-i) ∙ length-zeros row_length)
-    (room (goal.at.loop-i-preserved c).In-loop-i) (answer-got c.if-e-ne0.false c.equation_at-e.ensures)
-    c.equation_at-e.ensures.within
+    (c.equation_at.auto.row ∙ ap length (part (goal.at.loop-i-preserved c).In-loop-i) ∙ length-zeros row_length)
+    (room (goal.at.loop-i-preserved c).In-loop-i) (read-ok c.in_ok-next.ensures) (read-within c.in_ok-next.ensures)
 
 pub shape_of-rows : goal.shape_of-rows
 shape_of-rows c = c.loop-i.invariant.long
@@ -88,4 +69,4 @@ shape_of-rows c = c.loop-i.invariant.long
 pub returns : goal.returns
 returns c =
     let inv = c.loop-i.invariant in
-    gives (rows_of-parts _ _) (stored-ends _ _ _ _ _ _ _ _ _ _ inv (omega (arith, inv.counted, c.loop-i-test.false))) inv.within
+    reads (rows_of-parts _ _) (stored-ends _ _ _ _ _ _ _ _ _ _ inv (omega (arith, inv.counted, c.loop-i-test.false))) inv.within

@@ -13,25 +13,22 @@ use Rattle.differential.specs.Grammar.{judge_factor_of}
 use mir.Syntax.{w64}
 use Rattle.differential.proofs.terms.judge_factor.Goals as goal
 
-pub factor_small-requires : goal.factor_small-requires
-factor_small-requires c = tt
+pub returns-then-not-factor_small : goal.returns-then-not-factor_small
+unfolding judge_factor_of
+returns-then-not-factor_small c =
+    let test = c.factor_small.ensures ∙ ap (λ v. leb (nat_abs v) factor_bound) (to_z-of_z {w = w64} c.ranges.value) in
+    sym (ap (λ t. cond t (cond (is_zero_ℤ c.args.value) 3 0) 5) (sym test ∙ c.if-not-factor_small.true))
 
 pub returns-then-value-eq0 : goal.returns-then-value-eq0
 unfolding judge_factor_of is_zero_ℤ
 returns-then-value-eq0 c =
     let f = c.ranges.value in
     let test = c.factor_small.ensures ∙ ap (λ v. leb (nat_abs v) factor_bound) (to_z-of_z {w = w64} f) in
-    sym (ap₂ (λ t z. cond t (cond z 3 0) 5) (sym test ∙ c.if-factor_small.true) (sym (of_z-zero _ f) ∙ eq-eqb _ 0 c.if-value-eq0.true))
-
-pub returns-then-factor_small : goal.returns-then-factor_small
-unfolding judge_factor_of is_zero_ℤ
-returns-then-factor_small c =
-    let f = c.ranges.value in
-    let test = c.factor_small.ensures ∙ ap (λ v. leb (nat_abs v) factor_bound) (to_z-of_z {w = w64} f) in
-    sym (ap₂ (λ t z. cond t (cond z 3 0) 5) (sym test ∙ c.if-factor_small.true) (sym (of_z-zero _ f) ∙ ne_eqb _ 0 c.if-value-eq0.false))
+    sym (ap₂ (λ t z. cond t (cond z 3 0) 5) (sym test ∙ c.if-not-factor_small.false) (sym (of_z-zero _ f) ∙ eq-eqb _ 0 c.if-value-eq0.true))
 
 pub returns : goal.returns
-unfolding judge_factor_of
+unfolding judge_factor_of is_zero_ℤ
 returns c =
-    let test = c.factor_small.ensures ∙ ap (λ v. leb (nat_abs v) factor_bound) (to_z-of_z {w = w64} c.ranges.value) in
-    sym (ap (λ t. cond t (cond (is_zero_ℤ c.args.value) 3 0) 5) (sym test ∙ c.if-factor_small.false))
+    let f = c.ranges.value in
+    let test = c.factor_small.ensures ∙ ap (λ v. leb (nat_abs v) factor_bound) (to_z-of_z {w = w64} f) in
+    sym (ap₂ (λ t z. cond t (cond z 3 0) 5) (sym test ∙ c.if-not-factor_small.false) (sym (of_z-zero _ f) ∙ ne_eqb _ 0 c.if-value-eq0.false))

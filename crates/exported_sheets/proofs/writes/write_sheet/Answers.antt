@@ -1,6 +1,6 @@
 -- `exported_sheets::writes::write_sheet` meets its contract.
 -- Assumes nothing.
-use mathlib.Core.Path.{◌≡◌, sym, ◌∙◌, ap}
+use mathlib.Core.Path.{◌≡◌, refl, sym, ◌∙◌, ap}
 use mathlib.Core.Bool.{true}
 use mathlib.Core.List.{List, [], ◌∷◌}
 use Prim.Native.Nat.{ℕ, ◌^◌, ◌≤◌, ◌<◌}
@@ -13,16 +13,16 @@ use mir.Syntax.{w64}
 use mir.Facts.{to_z_pos}
 use Rattle.integers.specs.Ranges.{sfits-size}
 use Rattle.rules.specs.Stores.{Sizes}
-use Rattle.rules.specs.SheetCalls.{write_call}
+use Rattle.rules.specs.SheetCalls.{WriteCall, write_call}
 use Rattle.stores.specs.Validity.{the_sizes_of}
-use Rattle.writing.specs.WriterChecks.{call_of}
+use Rattle.refusals.specs.Refusals.{number_of, number-nonzero}
 use Rattle.export_results.specs.Results.{on_acceptance-none, on_acceptance-some}
 use Rattle.lists.specs.Overwritten.{set-overwrite}
 use Rattle.lists.specs.Taken.{none_before}
 use Rattle.exported_sheets.specs.Writes.{order_of, no_negative_of, not_written, written-length}
-use Rattle.exported_sheets.specs.Writes.{write-unordered, write-negative, write-short, write_done}
+use Rattle.exported_sheets.specs.Writes.{write-same, write-unordered, write-negative, write-short, write_done}
 use Rattle.exported_sheets.proofs.writes.write_sheet.Goals as goal
-use Rattle.exported_sheets.proofs.writes.write_sheet.Goals.{After-columns-columns, After-no_negative, After-write_sheet-written, Else-not-no_negative, Start}
+use Rattle.exported_sheets.proofs.writes.write_sheet.Goals.{After-columns-columns, After-no_negative, After-write_sheet, In-Ok, Else-not-no_negative, Start}
 
 -- the call
 module _ (c : Start) where
@@ -67,22 +67,18 @@ given : (c : After-columns-columns) → c.columns-columns.result ≡ order_of (o
 unfolding order_of
 given c = c.columns-columns.ensures
 
--- the sheet that was written
-module _ (c : After-write_sheet-written) where
+-- the sheet that was written, or the refusal
+module _ (c : After-write_sheet) where
   abbrev ordered : Else-not-no_negative
-  ordered = (goal.at.After-write_sheet-written c).Else-not-no_negative
+  ordered = (goal.at.After-write_sheet c).Else-not-no_negative
 
   abbrev place : Start
   place = start ordered
 
-  made : call_of c.write_sheet-written.result c.write_sheet-written.new.bytes
-      ≡ write_call (z place) (count place) (order_of (order place)) (rows place) (relations place) (bytes place)
-  made =
-      c.write_sheet-written.ensures
-      ∙ ap (λ o. write_call (z place) (count place) o (rows place) (relations place) (bytes place)) (given (goal.at.After-write_sheet-written c).After-columns-columns)
-
-  size : c.write_sheet-written.result.length ≤ length (bytes place)
-  size = written-length (z place) (count place) (order_of (order place)) (rows place) (relations place) (bytes place) made
+  made : {x : WriteCall} → x ≡ write_call (z place) (count place) c.columns-columns.result (rows place) (relations place) (bytes place)
+      → x ≡ write_call (z place) (count place) (order_of (order place)) (rows place) (relations place) (bytes place)
+  made e =
+      e ∙ ap (λ o. write_call (z place) (count place) o (rows place) (relations place) (bytes place)) (given (goal.at.After-write_sheet c).After-columns-columns)
 
   small : length (bytes place) < 2 ^ 63
   small = omega arith
@@ -91,7 +87,7 @@ pub returns-then-order-lt4 : goal.returns-then-order-lt4
 unfolding not_written
 returns-then-order-lt4 c =
     let s = (goal.at.returns-then-order-lt4 c).Start in
-    ap (λ n. not_written n (bytes s) (result s)) c.check_stores.ensures
+    ap (λ n. not_written n (bytes s) (result s)) (c.number_in.ensures ∙ c.check_stores-checked.ensures)
     ∙ write-unordered (z s) (count s) (order s) (rows s) (relations s) (bytes s) (result s) c.if-order-lt4.true
 
 pub slice_bounds-no_negative-end : goal.slice_bounds-no_negative-end
@@ -112,37 +108,46 @@ returns-then-res-lt1 c =
     let e = (goal.at.After-columns-columns columns).Else-not-no_negative in
     let s = start e in
     (λ i. record {
-      refusal = (ap (λ x. x.refusal) call.ensures ∙ ap (λ o. (write_call (z s) (count s) o [] [] []).refusal) (given columns)) i;
+      refusal = (c.number_in-then-res-lt1.ensures ∙ sym (write-same call.result call.new.bytes) ∙ ap (λ x. x.refusal) call.ensures ∙ ap (λ o. (write_call (z s) (count s) o [] [] []).refusal) (given columns)) i;
       byte_store = none_before call.new.bytes (bytes s) call.auto.bytes i;
       result_store = result s;
     })
     ∙ write-short (z s) (count s) (order s) (rows s) (relations s) (bytes s) (result s) (four e) (passed e)
     c.if-res-lt1.true
 
-pub returns-then-written-ne0 : goal.returns-then-written-ne0
-returns-then-written-ne0 c =
-    let w = (goal.at.returns-then-written-ne0 c).After-write_sheet-written in
-    let s = place w in
-    write_done (z s) (count s) (order s) (rows s) (relations s) (bytes s) (result s) (four (ordered w)) (passed (ordered w)) (made w)
-    (on_acceptance-none w.write_sheet-written.result.refusal (pos w.write_sheet-written.result.length ∷ []) (result s) c.if-written-ne0.true)
-    (omega arith)
+-- its length
+module _ (c : In-Ok) where
+  abbrev whole : After-write_sheet
+  whole = (goal.at.In-Ok c).After-write_sheet
+
+  abbrev here : Start
+  here = place whole
+
+  size : c.in-Ok.length ≤ length (bytes here)
+  size =
+      written-length (z here) (count here) (order_of (order here)) (rows here) (relations here) (bytes here) (made whole c.in-Ok.ensures)
 
 pub overflow_cast-res : goal.overflow_cast-res
 overflow_cast-res c =
-    let w = (goal.at.overflow_cast-res c).After-write_sheet-written in
-    sfits-size (pos w.write_sheet-written.result.length) (size w) (small w)
+    let w = (goal.at.overflow_cast-res c).In-Ok in
+    sfits-size (pos c.in-Ok.length) (size w) (small (whole w))
 
-pub returns : goal.returns
-returns c =
-    let w = (goal.at.returns c).After-write_sheet-written in
+pub returns-in-Ok : goal.returns-in-Ok
+returns-in-Ok c =
+    let w = (goal.at.returns-in-Ok c).In-Ok in
+    let s = here w in
+    let e = ordered (whole w) in
+    let number = to_z_pos w64 (lt_of_le_of_lt (size w) (small (whole w))) in
+    (λ i. record { refusal = 0; byte_store = c.write_sheet.new.bytes; result_store = set (result s) 0 (number i) })
+    ∙ write_done (z s) (count s) (order s) (rows s) (relations s) (bytes s) (result s) (four e) (passed e) (made (whole w) c.in-Ok.ensures)
+    (set-overwrite (result s) (pos c.in-Ok.length) (omega arith)
+    ∙ on_acceptance-some 0 (pos c.in-Ok.length ∷ []) (result s) refl) (omega arith)
+
+pub returns-in-Err : goal.returns-in-Err
+returns-in-Err c =
+    let w = (goal.at.returns-in-Err c).After-write_sheet in
     let s = place w in
-    let length-written = pos w.write_sheet-written.result.length in
-    let number = to_z_pos w64 (lt_of_le_of_lt (size w) (small w)) in
-    (λ i. record {
-      refusal = sym c.if-written-ne0.false i;
-      byte_store = w.write_sheet-written.new.bytes;
-      result_store = set (result s) 0 (number i);
-    })
-    ∙ write_done (z s) (count s) (order s) (rows s) (relations s) (bytes s) (result s) (four (ordered w)) (passed (ordered w)) (made w)
-    (set-overwrite (result s) length-written (omega arith)
-    ∙ on_acceptance-some w.write_sheet-written.result.refusal (length-written ∷ []) (result s) c.if-written-ne0.false) (omega arith)
+    let e = ordered w in
+    (λ i. record { refusal = c.number.ensures i; byte_store = c.write_sheet.new.bytes; result_store = result s })
+    ∙ write_done (z s) (count s) (order s) (rows s) (relations s) (bytes s) (result s) (four e) (passed e) (made w c.in-Err.ensures)
+    (on_acceptance-none (number_of c.in-Err.refusal) (pos 0 ∷ []) (result s) (number-nonzero c.in-Err.refusal)) (omega arith)

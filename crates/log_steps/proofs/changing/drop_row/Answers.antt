@@ -48,8 +48,10 @@ pub returns-then-p-i : goal.returns-then-p-i
 returns-then-p-i c =
     let s = (goal.at.returns-then-p-i c).Start in
     λ D relations ready.
-    stepped_same refl c.answer.ensures refl
-    (step-refused D ready (begun s).unsettled (dropping (i s)) (absent-dropped D ready (begun s).unsettled (i s) c.if-p-i.true))
+    record {
+      left = p s;
+      stepped = step-refused D ready (begun s).unsettled (dropping (i s)) (absent-dropped D ready (begun s).unsettled (i s) c.if-p-i.true);
+    }
 
 pub row_zero-requires : goal.row_zero-requires
 row_zero-requires c = let e = c in begun-room (begun (start e)) (i (start e)) (inside e)
@@ -59,9 +61,11 @@ returns-then-not-row_zero c =
     let e = (goal.at.returns-then-not-row_zero c).Else-p-i in
     let s = start e in
     λ D relations ready.
-    stepped_same refl c.answer-then-not-row_zero.ensures refl
-    (step-refused D ready (begun s).unsettled (dropping (i s))
-    (drop-allowed D ready (begun s).unsettled (i s) (inside e) ∙ sym c.row_zero.ensures ∙ c.if-not-row_zero.true))
+    record {
+      left = p s;
+      stepped = step-refused D ready (begun s).unsettled (dropping (i s))
+          (drop-allowed D ready (begun s).unsettled (i s) (inside e) ∙ sym c.row_zero.ensures ∙ c.if-not-row_zero.true);
+    }
 
 pub overflow_sub-last : goal.overflow_sub-last
 overflow_sub-last c = let e = (goal.at.overflow_sub-last c).Else-p-i in omega (arith, inside e)
@@ -95,9 +99,12 @@ returns c =
     let e = (goal.at.returns c).Else-p-i in
     let s = start e in
     λ D relations ready.
-    stepped_same
-    (c.clear.ensures
-    ∙ ap (λ l. paste l (((p s).rows - 1) * row_length) (replicate row_length (pos 0)) row_length) c.move_up.ensures)
-    c.answer-2.ensures refl
-    (drop-stepped D ready (begun s).unsettled (i s) (inside e)
-    (drop-allowed D ready (begun s).unsettled (i s) (inside e) ∙ sym c.row_zero.ensures ∙ c.if-not-row_zero.false))
+    record {
+      left = p s;
+      stepped = stepped_same
+          (c.clear.ensures
+          ∙ ap (λ l. paste l (((p s).rows - 1) * row_length) (replicate row_length (pos 0)) row_length) c.move_up.ensures)
+          refl refl
+          (drop-stepped D ready (begun s).unsettled (i s) (inside e)
+          (drop-allowed D ready (begun s).unsettled (i s) (inside e) ∙ sym c.row_zero.ensures ∙ c.if-not-row_zero.false));
+    }

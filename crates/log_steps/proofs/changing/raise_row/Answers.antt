@@ -1,132 +1,71 @@
 -- `log_steps::changing::raise_row` meets its contract.
 -- Assumes nothing.
-use Prim.Native.Nat.{ℕ, ◌<◌}
-use mathlib.Core.Path.{◌≡◌, refl, sym, ◌∙◌, ap, ap₂, subst}
-use mathlib.Core.List.{List}
-use native.Mathlib.Omega.{arith}
+use mathlib.Core.Path.{refl, sym, ◌∙◌, ap, subst}
 use lib.Dec.{T}
-use lib.IntN.{ℤ}
+use Rattle.std.proofs.lemmas.Result.{err_from_is_err_and}
 use Rattle.lists.specs.Tests.{every}
 use Rattle.rules.specs.Limits.{small}
 use Rattle.rules.specs.Elimination.{Limited}
-use Rattle.working_rows.specs.Working.{numbers_held, Full, width-of}
-use Rattle.working_rows.specs.Worked.{refusal_of, worked_row, numbers-worked}
-use Rattle.reduction.specs.declared.step.Progress.{Progress}
+use Rattle.refusals.specs.Refusals.{number_of}
+use Rattle.working_rows.specs.Worked.{Shown}
 use Rattle.reduction.specs.Progress.{answer_of, shifted_progress}
-use Rattle.reduction.specs.NewRows.{saved, shifted-storable, full-worked}
-use Rattle.reduction.specs.StoreExchange.{numbers_at, Loaded, loaded-from, length-numbers_at, small-numbers_at}
+use Rattle.reduction.specs.NewRows.{shifted-storable, full-limited, saved-limited}
+use Rattle.reduction.specs.StoreExchange.{numbers_at, length-numbers_at, small-numbers_at}
 use Rattle.reduction.specs.StepLaws.{shifted_row_of}
 use Rattle.log_steps.specs.Logs.{raising}
-use Rattle.log_steps.specs.StoreChanges.{Begun, begun-few, begun-room, stepped_same}
-use Rattle.log_steps.proofs.StoreChanges.{step-refused, absent-raised, raise-allowed}
-use Rattle.log_steps.proofs.StoreChanges.{raise-stepped}
+use Rattle.log_steps.specs.StoreChanges.{Losing, begun-room, stepped_same}
+use Rattle.log_steps.proofs.StoreChanges.{step-refused, raise-unlost, raise-allowed, raise-stepped}
 use Rattle.log_steps.proofs.changing.raise_row.Goals as goal
-use Rattle.log_steps.proofs.changing.raise_row.Goals.{After-load-row, After-shifted, Else-p-i, Start}
+use Rattle.log_steps.proofs.changing.raise_row.Goals.{After-shifted}
 
--- the arguments
-module _ (c : Start) where
-  abbrev rows : List ℤ
-  rows = c.args.rows.now
-
-  abbrev p : Progress
-  p = c.args.p
-
-  abbrev i : ℕ
-  i = c.args.i
-
-  begun : Begun rows p
-  begun = c.requires.0
-
--- the row is present
-module _ (c : Else-p-i) where
-  abbrev start : Start
-  start = (goal.at.Else-p-i c).Start
-
-  inside : i start < (p start).rows
-  inside = c.if-p-i.false
-
--- it is loaded and shifted
-module _ (c : After-load-row) where
-  abbrev passed : Else-p-i
-  passed = (goal.at.After-load-row c).Else-p-i
-
-  abbrev base : Start
-  base = start passed
-
-  loaded : Loaded (rows base) (i base) c.load-row.result
-  loaded = loaded-from (rows base) (i base) _ (begun-room (begun base) (i base) (inside passed)) c.load-row.ensures
-
-  bounded : T (every small (numbers_held c.load-row.result))
-  bounded =
-      subst (λ l. T (every small l)) (sym loaded.numbers)
-      (small-numbers_at (p base).rows (rows base) (begun base).rows-within (i base) (inside passed))
-
-  abbrev new : Limited
-  new = shifted_row_of (numbers_at (rows base) (i base))
-
-module _ (c : After-shifted) where
-  abbrev read : After-load-row
-  read = (goal.at.After-shifted c).After-load-row
-
-  refusal_is : c.shifted.result.refusal ≡ refusal_of (new read)
-  refusal_is = c.shifted.ensures.refusal_value ∙ ap (λ l. refusal_of (shifted_row_of l)) (loaded read).numbers
-
-  row_is : c.shifted.result.row ≡ worked_row (new read)
-  row_is = c.shifted.ensures.row_value ∙ ap (λ l. worked_row (shifted_row_of l)) (loaded read).numbers
-
-pub returns-then-p-i : goal.returns-then-p-i
-returns-then-p-i c =
-    let s = (goal.at.returns-then-p-i c).Start in
-    λ D relations ready.
-    stepped_same refl c.answer.ensures refl
-    (step-refused D ready (begun s).unsettled (raising (i s)) (absent-raised D ready (begun s).unsettled (i s) c.if-p-i.true))
-
-pub block_zero-requires : goal.block_zero-requires
-block_zero-requires c = let e = c in (begun-room (begun (start e)) (i (start e)) (inside e), omega arith)
-
-pub returns-then-not-block_zero : goal.returns-then-not-block_zero
-returns-then-not-block_zero c =
-    let e = (goal.at.returns-then-not-block_zero c).Else-p-i in
-    let s = start e in
-    λ D relations ready.
-    stepped_same refl c.answer-then-not-block_zero.ensures refl
-    (step-refused D ready (begun s).unsettled (raising (i s))
-    (raise-allowed D ready (begun s).unsettled (i s) (inside e) ∙ sym c.block_zero.ensures ∙ c.if-not-block_zero.true))
-
-pub width_of-width-requires : goal.width_of-width-requires
-width_of-width-requires c = let e = (goal.at.width_of-width-requires c).Else-p-i in begun-room (begun (start e)) (i (start e)) (inside e)
-
-pub overflow_mul-i : goal.overflow_mul-i
-overflow_mul-i c = let e = (goal.at.overflow_mul-i c).Else-p-i in omega (arith, begun-few (begun (start e)) (i (start e)) (inside e))
-
-pub load-row-requires : goal.load-row-requires
-load-row-requires c =
-    let e = (goal.at.load-row-requires c).Else-p-i in
-    (begun-room (begun (start e)) (i (start e)) (inside e), c.width_of-width.ensures)
+pub returns-in_err-row : goal.returns-in_err-row
+returns-in_err-row c =
+    let exit = err_from_is_err_and c.from_residual.result c.from_residual.ensures.1 in
+    let wrong = c.in_err-row.ensures in
+    rw (exit.1, exit.2) (λ D relations ready. record {
+      left = c.args.p;
+      stepped = stepped_same refl (ap (λ r. answer_of (number_of r) c.args.p) wrong.0) refl
+          (step-refused D ready c.requires.0.unsettled (raising c.args.i) (raise-unlost D ready c.requires.0.unsettled c.args.i wrong.1));
+    })
 
 pub shifted-requires : goal.shifted-requires
-shifted-requires c = let l = (goal.at.shifted-requires c).After-load-row in
-    ((loaded l).full, bounded l, width-of l.load-row.result _ _ l.load-row.ensures)
+shifted-requires c =
+    let losing : Losing c.args.rows.now c.args.p c.args.i 0 c.in_ok-row.row = c.in_ok-row.ensures in (
+      losing.loaded.full,
+      subst (λ l. T (every small l)) (sym losing.loaded.numbers)
+          (small-numbers_at c.args.p.rows c.args.rows.now c.requires.0.rows-within c.args.i losing.inside),
+      losing.wide,
+    )
+
+-- the row is shifted
+module _ (c : After-shifted) where
+  losing : Losing c.args.rows.now c.args.p c.args.i 0 c.in_ok-row.row
+  losing = c.in_ok-row.ensures
+
+  abbrev new : Limited
+  new = shifted_row_of (numbers_at c.args.rows.now c.args.i)
+
+  shown : Shown c.shifted.result new
+  shown = subst (λ l. Shown c.shifted.result (shifted_row_of l)) losing.loaded.numbers c.shifted.ensures
 
 pub put_limited-requires : goal.put_limited-requires
-put_limited-requires c =
-    let l = read c in
-    let s = base l in (
-      begun-room (begun s) (i s) (inside (passed l)),
-      subst Full (sym (row_is c)) (full-worked (new l) (shifted-storable (numbers_at (rows s) (i s))
-          (length-numbers_at (p s).rows (rows s) (begun s).rows-within (i s) (inside (passed l))))),
-    )
+put_limited-requires c = (
+  begun-room c.requires.0 c.args.i (losing c).inside,
+  full-limited (new c) (shifted-storable (numbers_at c.args.rows.now c.args.i)
+      (length-numbers_at c.args.p.rows c.args.rows.now c.requires.0.rows-within c.args.i (losing c).inside)) c.shifted.result (shown c),
+)
 
 pub returns : goal.returns
 returns c =
     let d = (goal.at.returns c).After-shifted in
-    let l = read d in
-    let s = base l in
-    let e = passed l in
+    let rows = c.args.rows.now in
+    let i = c.args.i in
+    let next = shifted_progress c.args.p in
+    let first = c.requires.0.unsettled in
     λ D relations ready.
-    stepped_same (c.put_limited.ensures.rows_after
-    ∙ ap₂ (saved (rows s) (i s)) (refusal_is d) (ap numbers_held (row_is d) ∙ numbers-worked (new l)))
-    (c.put_limited.ensures.value ∙ ap (λ n. answer_of n (shifted_progress (p s))) (refusal_is d)) refl
-    (raise-stepped D ready (begun s).unsettled (i s) (inside e)
-    (raise-allowed D ready (begun s).unsettled (i s) (inside e) ∙ sym l.block_zero.ensures
-    ∙ l.if-not-block_zero.false))
+    record {
+      left = next;
+      stepped = stepped_same (c.put_limited.ensures.rows_after ∙ saved-limited rows i (new d) d.shifted.result (shown d))
+          (c.put_limited.ensures.value ∙ ap (λ n. answer_of n next) (shown d).0) refl
+          (raise-stepped D ready first i (losing d).inside (raise-allowed D ready first i (losing d).inside ∙ (losing d).lost));
+    }

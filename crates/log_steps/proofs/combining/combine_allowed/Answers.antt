@@ -1,28 +1,27 @@
 -- `log_steps::combining::combine_allowed` meets its contract: roots and relations are those of the definition, and the new row is handed in.
 -- Assumes nothing.
-use mathlib.Core.Path.{◌≡◌, refl, sym, ◌∙◌, ap, ap₂, subst, subst₂}
+use mathlib.Core.Path.{◌≡◌, refl, sym, ◌∙◌, ap₂, subst, subst₂}
 use mathlib.Core.List.{List}
 use Prim.Native.Nat.{ℕ, ◌+◌, ◌≤◌, ◌<◌}
 use native.Mathlib.Nat.{le_of_eq}
 use native.Mathlib.Omega.{arith}
 use lib.Dec.{T}
 use lib.IntN.{ℤ}
-use lib.ListN.{length, length-append, length-replicate}
+use lib.ListN.{length}
 use Rattle.algebra.specs.Polynomials.{Polynomial}
 use Rattle.algebra.specs.Roots.{roots}
 use Rattle.lists.specs.Tests.{every}
 use Rattle.rules.specs.Limits.{small}
 use Rattle.rules.specs.Elimination.{Limited, leading, listing}
-use Rattle.roots.specs.RootSearch.{listed, held_of, roots_few}
+use Rattle.roots.specs.RootSearch.{roots_few}
 use Rattle.multiplicities.specs.declared.RootsWith.{RootsWith}
-use Rattle.multiplicities.specs.Counts.{roots_alone, roots_held, found-alone}
+use Rattle.multiplicities.specs.Counts.{roots_held, found-held, found-count, found-long}
 use Rattle.sides.specs.Relations.{Relisted}
-use Rattle.working_rows.specs.Working.{numbers_held}
-use Rattle.working_rows.specs.Worked.{refusal_of, numbers_of, numbers-worked}
+use Rattle.working_rows.specs.Worked.{refusal_of, numbers_of}
 use Rattle.reduction.specs.declared.step.Progress.{Progress}
 use Rattle.reduction.specs.MultiplierSizes.{roots-small}
 use Rattle.reduction.specs.Progress.{Ready, state_of, answer_of, listed_progress}
-use Rattle.reduction.specs.NewRows.{saved}
+use Rattle.reduction.specs.NewRows.{saved, saved-limited}
 use Rattle.reduction.specs.StoreExchange.{numbers_at, length-numbers_at, small-numbers_at}
 use Rattle.log_steps.specs.Logs.{combine_rows_of}
 use Rattle.log_steps.specs.Divisions.{divided-storable}
@@ -30,13 +29,10 @@ use Rattle.log_steps.specs.StoreChanges.{Begun, begun-few, begun-room, Stepped, 
 use Rattle.log_steps.specs.StoreCombinations.{new_row}
 use Rattle.log_steps.proofs.StoreCombinations.{combine-many, combine-stepped}
 use Rattle.log_steps.proofs.combining.combine_allowed.Goals as goal
-use Rattle.log_steps.proofs.combining.combine_allowed.Goals.{After-list_roots, After-struct_known-2-1, Start}
+use Rattle.log_steps.proofs.combining.combine_allowed.Goals.{After-list_roots, After-roots_with-found, Start}
 
 abbrev Small : List ℤ → Type 0
 Small l = T (every small l)
-
-listed-length : (l : List ℤ) → length l ≤ 16 → length (listed l).values ≡ 16
-listed-length l h = simp (length-append, length-replicate) (omega arith)
 
 -- the arguments
 module _ (c : Start) where
@@ -80,26 +76,23 @@ module _ (c : Start) where
   new j d h = new_row d g h target (numbers_at rows j)
 
 -- the roots
-module _ (c : After-struct_known-2-1) where
+module _ (c : After-roots_with-found) where
   abbrev base : Start
-  base = (goal.at.After-struct_known-2-1 c).Start
+  base = (goal.at.After-roots_with-found c).Start
 
   abbrev found : RootsWith
   found = c.roots_with-found.result
 
-  found-is : roots_alone found ≡ listed (roots (g base))
-  found-is = found-alone (g base) c.roots_with-found.ensures
-
   count-is : found.count ≡ length (roots (g base))
-  count-is = ap (λ f. f.count) found-is
+  count-is = found-count (g base) c.roots_with-found.ensures
 
   held-is : roots_held found ≡ roots (g base)
-  held-is = held_of (roots (g base)) found-is
+  held-is = found-held (g base) c.roots_with-found.ensures
 
 -- the relations, and the new row
 module _ (c : After-list_roots) where
-  abbrev rooted : After-struct_known-2-1
-  rooted = (goal.at.After-list_roots c).After-struct_known-2-1
+  abbrev rooted : After-roots_with-found
+  rooted = (goal.at.After-list_roots c).After-roots_with-found
 
   abbrev origin : Start
   origin = base rooted
@@ -130,30 +123,31 @@ pub roots_with-found-requires : goal.roots_with-found-requires
 roots_with-found-requires c = (c.requires.g_len.0, c.requires.g_len.1)
 
 pub overflow_add-count : goal.overflow_add-count
-overflow_add-count c = omega (arith, few (base c), count-is c, (ready (base c)).listing.few)
+overflow_add-count c =
+    let r = (goal.at.overflow_add-count c).After-roots_with-found in
+    omega (arith, few (base r), count-is r, (ready (base r)).listing.few)
 
 pub returns-then-count-gt16 : goal.returns-then-count-gt16
 returns-then-count-gt16 c =
-    let r = (goal.at.returns-then-count-gt16 c).After-struct_known-2-1 in
+    let r = (goal.at.returns-then-count-gt16 c).After-roots_with-found in
     let s = base r in
     let many : 16 < (p s).count + length (roots (g s)) = omega (arith, count-is r, c.if-count-gt16.true) in
-    λ j d h other made.
-    stepped_same refl c.answer.ensures refl (combine-many (ready s) (none s) (i s) j d (g s) h (inside s) other many)
+    λ j d h other made. record { left = p s; stepped = combine-many (ready s) (none s) (i s) j d (g s) h (inside s) other many }
 
 pub overflow_mul-i : goal.overflow_mul-i
 overflow_mul-i c =
-    let s = base (goal.at.overflow_mul-i c).After-struct_known-2-1 in omega (arith, begun-few (begun s) (i s) (inside s))
+    let s = base (goal.at.overflow_mul-i c).After-roots_with-found in omega (arith, begun-few (begun s) (i s) (inside s))
 
 pub row_at-row-requires : goal.row_at-row-requires
 row_at-row-requires c =
-    let s = base (goal.at.row_at-row-requires c).After-struct_known-2-1 in begun-room (begun s) (i s) (inside s)
+    let s = base (goal.at.row_at-row-requires c).After-roots_with-found in begun-room (begun s) (i s) (inside s)
 
 pub list_roots-requires : goal.list_roots-requires
 list_roots-requires c =
-    let r = (goal.at.list_roots-requires c).After-struct_known-2-1 in
+    let r = (goal.at.list_roots-requires c).After-roots_with-found in
     let s = base r in
     let row = subst Small (sym c.row_at-row.ensures.result_value) (target_small s) in
-    let values = ap (λ f. length f.values) (found-is r) ∙ listed-length (roots (g s)) (omega (arith, few s)) in record {
+    let values = found-long (g s) c.roots_with-found.ensures (omega (arith, few s)) in record {
       listing = ((ready s).listing, omega (arith, c.if-count-gt16.false), values);
       t = (subst Small (sym (held-is r)) (roots-small (g s) s.requires.g_len.1), row, c.row_at-row.ensures.result_len);
     }
@@ -166,8 +160,10 @@ returns c =
     let l = (goal.at.returns c).After-list_roots in
     let s = origin l in
     λ j d h other shown.
-    stepped_same
-    (c.put_limited.ensures.rows_after ∙ ap₂ (saved (rows s) (i s)) shown.0 (ap numbers_held shown.1 ∙ numbers-worked (new s j d h)))
-    (c.put_limited.ensures.value ∙ ap₂ (λ n k. answer_of n (listed_progress (p s) k)) shown.0 (count-is (rooted l)))
-    refl
-    (stepped l j d h other)
+    record {
+      left = listed_progress (p s) (found (rooted l)).count;
+      stepped = stepped_same (c.put_limited.ensures.rows_after ∙ saved-limited (rows s) (i s) (new s j d h) s.args.worked shown)
+          (c.put_limited.ensures.value ∙ ap₂ (λ n k. answer_of n (listed_progress (p s) k)) shown.0 (count-is (rooted l)))
+          refl
+          (stepped l j d h other);
+    }

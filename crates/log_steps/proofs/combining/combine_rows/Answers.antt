@@ -7,28 +7,31 @@ use Prim.Native.Nat.{ℕ, ◌<◌}
 use native.Mathlib.Omega.{arith}
 use lib.Dec.{T, ltb, eqb}
 use lib.IntN.{ℤ, nat_abs}
+use Rattle.std.specs.Prelude.{Result}
+use Rattle.std.proofs.Common.{Some}
+use Rattle.refusals.specs.declared.Refusal.{Refusal}
+use Rattle.rules.specs.Elimination.{Limited}
 use mir.Syntax.{w64}
-use mir.Val.{to_z, of_z}
 use mir.Facts.{to_z-of_z}
 use Rattle.algebra.specs.Polynomials.{Polynomial, is_zero_of}
 use Rattle.lists.specs.Tests.{every}
 use Rattle.rules.specs.Limits.{small}
 use Rattle.rules.specs.Rows.{coefficients_of}
-use Rattle.working_rows.specs.Working.{Full}
-use Rattle.working_rows.specs.Worked.{refusal_of, worked_row, Shown}
+use Rattle.working_rows.specs.declared.WorkingRow.{WorkingRow}
+use Rattle.working_rows.specs.Worked.{Shown}
 use Rattle.reduction.specs.declared.step.Progress.{Progress}
 use Rattle.reduction.specs.Progress.{Ready, state_of}
-use Rattle.reduction.specs.NewRows.{full-worked}
+use Rattle.reduction.specs.NewRows.{full-limited}
 use Rattle.reduction.specs.StoreExchange.{numbers_at, length-numbers_at, small-numbers_at}
 use Rattle.log_steps.specs.Logs.{combining, allowed, divides_all}
 use Rattle.log_steps.specs.Divisions.{combined, divided-storable}
 use Rattle.log_steps.specs.StoreChanges.{Begun, begun-few, begun-room, two-places, stepped_same, combining-changed}
 use Rattle.log_steps.proofs.StoreChanges.{step-refused}
-use Rattle.log_steps.specs.StoreCombinations.{new_row, judged_row, judged-exact, exact-judged, inexact-judged}
+use Rattle.log_steps.specs.StoreCombinations.{Judged, new_row, judged_row, judged-exact, exact-judged, inexact-judged}
 use Rattle.log_steps.proofs.StoreCombinations.{absent-combined}
 use Rattle.log_steps.proofs.StoreCombinations.{combine-allowed}
 use Rattle.log_steps.proofs.combining.combine_rows.Goals as goal
-use Rattle.log_steps.proofs.combining.combine_rows.Goals.{After-divided_row-worked, Else-not-two_rows, Else-worked-eq13, Start}
+use Rattle.log_steps.proofs.combining.combine_rows.Goals.{After-divided_row, Else-not-two_rows, Start}
 
 -- the arguments
 module _ (c : Start) where
@@ -90,9 +93,9 @@ module _ (c : Else-not-two_rows) where
       ∙ ap (λ t. t && (not (is_zero_of (g start)) && divides_all (d start) whole)) tested
 
 -- the new row
-module _ (c : After-divided_row-worked) where
+module _ (c : After-divided_row) where
   abbrev passed : Else-not-two_rows
-  passed = (goal.at.After-divided_row-worked c).Else-not-two_rows
+  passed = (goal.at.After-divided_row c).Else-not-two_rows
 
   abbrev base : Start
   base = start passed
@@ -103,60 +106,48 @@ module _ (c : After-divided_row-worked) where
   abbrev pivot : List ℤ
   pivot = numbers_at (rows base) (j base)
 
-  same_row : judged_row (nat_abs (to_z w64 (of_z w64 base.args.d))) (g base) (h base)
-      c.row_at-target.result.now c.row_at-pivot.result.now
-      ≡ judged_row (d base) (g base) (h base) target pivot
-  same_row k =
-      judged_row (nat_abs (to_z-of_z {w = w64} base.ranges.d k)) (g base) (h base) (c.row_at-target.ensures.result_value k)
-      (c.row_at-pivot.ensures.result_value k)
+  abbrev judged : Limited
+  judged = judged_row (d base) (g base) (h base) target pivot
 
-  judged-is : c.divided_row-worked.result.refusal ≡ refusal_of (judged_row (d base) (g base) (h base) target pivot)
-  judged-is = c.divided_row-worked.ensures.refusal_value ∙ ap refusal_of same_row
-
-  row_is : c.divided_row-worked.result.row ≡ worked_row (judged_row (d base) (g base) (h base) target pivot)
-  row_is = c.divided_row-worked.ensures.row_value ∙ ap worked_row same_row
+  judged-is : Judged c.divided_row.result judged
+  judged-is =
+      subst (Judged c.divided_row.result)
+      (λ k. judged_row (nat_abs (to_z-of_z {w = w64} base.ranges.d k)) (g base) (h base) (c.row_at-target.ensures.result_value k)
+      (c.row_at-pivot.ensures.result_value k))
+      c.divided_row.ensures
 
   nonzero : not (is_zero_of (g base)) ≡ true
-  nonzero =
-      ap not (sym c.is_zero.ensures ∙ c.if-is_zero.false)
+  nonzero = ap not (sym c.is_zero.ensures ∙ c.if-is_zero.false)
 
--- the integer divides every coefficient
-module _ (c : Else-worked-eq13) where
-  abbrev made : After-divided_row-worked
-  made = (goal.at.Else-worked-eq13 c).After-divided_row-worked
+  -- the integer divides every coefficient
+  module _ (w : Result WorkingRow Refusal) (some : c.divided_row.result ≡ Some w) where
+    told : Judged (Some w) judged
+    told = subst (λ o. Judged o judged) some judged-is
 
-  abbrev origin : Start
-  origin = base made
+    exact : divides_all (d base) (whole passed) ≡ true
+    exact = exact-judged (d base) (g base) (h base) target pivot told.0
 
-  exact : divides_all (d origin) (whole (passed made)) ≡ true
-  exact =
-      exact-judged (d origin) (g origin) (h origin) (target made) (pivot made) (λ z. c.if-worked-eq13.false (judged-is made ∙ z))
-
-  new_is : judged_row (d origin) (g origin) (h origin) (target made) (pivot made)
-      ≡ new_row (d origin) (g origin) (h origin) (target made) (pivot made)
-  new_is = judged-exact (d origin) (g origin) (h origin) (target made) (pivot made) exact
-
-  shown : Shown made.divided_row-worked.result.refusal made.divided_row-worked.result.row
-      (new_row (d origin) (g origin) (h origin) (target made) (pivot made))
-  shown = (judged-is made ∙ ap refusal_of new_is, row_is made ∙ ap worked_row new_is)
+    shown : Shown w (new_row (d base) (g base) (h base) target pivot)
+    shown = subst (Shown w) (judged-exact (d base) (g base) (h base) target pivot exact) told.1
 
 pub returns-then-not-two_rows : goal.returns-then-not-two_rows
 returns-then-not-two_rows c =
     let s = (goal.at.returns-then-not-two_rows c).Start in
-    λ D.
-    stepped_same refl c.answer.ensures refl
-    (step-refused D (ready s) (none s) (combining (i s) (j s) (d s) (g s) (h s))
-    (absent-combined (ready s) (none s) (i s) (j s) (d s) (g s) (h s) D
-    (sym c.two_rows.ensures ∙ c.if-not-two_rows.true)))
+    λ D. record {
+      left = p s;
+      stepped = step-refused D (ready s) (none s) (combining (i s) (j s) (d s) (g s) (h s))
+          (absent-combined (ready s) (none s) (i s) (j s) (d s) (g s) (h s) D (sym c.two_rows.ensures ∙ c.if-not-two_rows.true));
+    }
 
 pub returns-then-is_zero : goal.returns-then-is_zero
 returns-then-is_zero c =
     let e = (goal.at.returns-then-is_zero c).Else-not-two_rows in
     let s = start e in
-    λ D.
-    stepped_same refl c.answer-then-is_zero.ensures refl
-    (step-refused D (ready s) (none s) (combining (i s) (j s) (d s) (g s) (h s))
-    (condition e D ∙ ap (λ t. not t && divides_all (d s) (whole e)) (sym c.is_zero.ensures ∙ c.if-is_zero.true)))
+    λ D. record {
+      left = p s;
+      stepped = step-refused D (ready s) (none s) (combining (i s) (j s) (d s) (g s) (h s))
+          (condition e D ∙ ap (λ t. not t && divides_all (d s) (whole e)) (sym c.is_zero.ensures ∙ c.if-is_zero.true));
+    }
 
 pub overflow_mul-i : goal.overflow_mul-i
 overflow_mul-i c =
@@ -178,9 +169,9 @@ row_at-pivot-requires c =
     let e = (goal.at.row_at-pivot-requires c).Else-not-two_rows in
     let s = start e in begun-room (begun s) (j s) (other e)
 
-pub divided_row-worked-requires : goal.divided_row-worked-requires
-divided_row-worked-requires c =
-    let e = (goal.at.divided_row-worked-requires c).Else-not-two_rows in
+pub divided_row-requires : goal.divided_row-requires
+divided_row-requires c =
+    let e = (goal.at.divided_row-requires c).Else-not-two_rows in
     let s = start e in
     let w = (ready s).rows-within in record {
       t = rw (to_z-of_z {w = w64} s.ranges.d) s.requires.ready.2;
@@ -193,35 +184,44 @@ divided_row-worked-requires c =
       );
     }
 
-pub returns-then-worked-eq13 : goal.returns-then-worked-eq13
-returns-then-worked-eq13 c =
-    let q = (goal.at.returns-then-worked-eq13 c).After-divided_row-worked in
+pub returns-in-None : goal.returns-in-None
+returns-in-None c =
+    let q = (goal.at.returns-in-None c).After-divided_row in
     let e = passed q in
     let s = base q in
-    let inexact = inexact-judged (d s) (g s) (h s) (target q) (pivot q) (sym (judged-is q) ∙ c.if-worked-eq13.true) in
-    λ D.
-    stepped_same refl c.answer-then-worked-eq13.ensures refl
-    (step-refused D (ready s) (none s) (combining (i s) (j s) (d s) (g s) (h s))
-    (condition e D ∙ ap (λ t. not (is_zero_of (g s)) && t) inexact ∙ and-false (not (is_zero_of (g s)))))
+    let inexact = inexact-judged (d s) (g s) (h s) (target q) (pivot q) (subst (λ o. Judged o (judged q)) c.in-None.is (judged-is q)) in
+    λ D. record {
+      left = p s;
+      stepped = step-refused D (ready s) (none s) (combining (i s) (j s) (d s) (g s) (h s))
+          (condition e D ∙ ap (λ t. not (is_zero_of (g s)) && t) inexact ∙ and-false (not (is_zero_of (g s))));
+    }
 
 pub combine_allowed-requires : goal.combine_allowed-requires
 combine_allowed-requires c =
-    let tested = (goal.at.combine_allowed-requires c).Else-worked-eq13 in
-    let q = made tested in
+    let q = (goal.at.combine_allowed-requires c).After-divided_row in
     let s = base q in
     let storable = divided-storable (g s) (h s) (target q) (pivot q) (omega (arith, s.requires.g_len.0))
     (length-numbers_at (p s).rows (rows s) (ready s).rows-within (i s) (inside (passed q))) (d s) in
-    let full = subst Full (sym (shown tested).1) (full-worked (new_row (d s) (g s) (h s) (target q) (pivot q)) storable) in
-    record { ready = (ready s, none s, inside (passed q)); g_len = (s.requires.g_len.0, s.requires.g_len.1, full) }
+    record {
+      ready = (ready s, none s, inside (passed q));
+      g_len = (
+        s.requires.g_len.0,
+        s.requires.g_len.1,
+        full-limited (new_row (d s) (g s) (h s) (target q) (pivot q)) storable c.in-Some.worked (shown q c.in-Some.worked c.in-Some.is),
+      );
+    }
 
-pub returns : goal.returns
-returns c =
-    let tested = (goal.at.returns c).Else-worked-eq13 in
-    let q = made tested in
+pub returns-in-Some : goal.returns-in-Some
+returns-in-Some c =
+    let q = (goal.at.returns-in-Some c).After-divided_row in
     let e = passed q in
     let s = base q in
     λ D.
-    stepped_same refl refl
-    (combining-changed D (state_of (rows s) (relations s) (p s)) (i s) (j s) (d s) (g s) (h s)
-    (condition e D ∙ ap₂ ◌&&◌ (nonzero q) (exact tested)))
-    (c.combine_allowed.ensures (j s) (d s) (h s) (other e) (shown tested))
+    let stepped = c.combine_allowed.ensures (j s) (d s) (h s) (other e) (shown q c.in-Some.worked c.in-Some.is) in
+    record {
+      left = stepped.left;
+      stepped = stepped_same refl refl
+          (combining-changed D (state_of (rows s) (relations s) (p s)) (i s) (j s) (d s) (g s) (h s)
+          (condition e D ∙ ap₂ ◌&&◌ (nonzero q) (exact q c.in-Some.worked c.in-Some.is)))
+          stepped.stepped;
+    }

@@ -35,7 +35,7 @@ module _ (c : After-a-1) where
   l = start.args.numbers.now
 
   abbrev k : ℕ
-  k = c.loop-k.k
+  k = c.loop-number.number-index
 
   abbrev d : ℤ
   d = to_z w64 (of_z w64 start.args.d)
@@ -43,10 +43,10 @@ module _ (c : After-a-1) where
   positive-d : T (lt_z (pos 0) d)
   positive-d = rw (to_z-of_z {w = w64} start.ranges.d) start.requires.1
 
-  back : to_z w64 (of_z w64 (get_or c.loop-k.numbers k (pos 0))) ≡ get_or l k (pos 0)
+  back : to_z w64 (of_z w64 (get_or c.loop-number.numbers k (pos 0))) ≡ get_or l k (pos 0)
   back =
-      let numbers = c.loop-k.numbers in
-      read_back (get_or numbers k (pos 0)) c.a-1.given ∙ suffix-first numbers l k (pos 0) c.loop-k.invariant.1
+      let numbers = c.loop-number.numbers in
+      read_back (get_or numbers k (pos 0)) c.a-1.given ∙ suffix-first numbers l k (pos 0) c.loop-number.invariant.1
 
 -- its remainder
 module _ (c : After-remainder) where
@@ -65,8 +65,8 @@ returns-then-d-eq1 c =
       numbers_after = λ _. sym (ap (λ a. divide_by (nat_abs a) l) one ∙ divide_by-one l);
     }
 
-pub loop-k-init : goal.loop-k-init
-loop-k-init c =
+pub loop-number-init : goal.loop-number-init
+loop-number-init c =
     (record { within = omega arith; long = refl; front = refl }, refl, λ j below. absurd (omega arith))
 
 pub remainder-requires : goal.remainder-requires
@@ -86,11 +86,11 @@ quotient-requires c =
     let e = (goal.at.quotient-requires c).After-a-1 in
     (rw (back e) ((start e).requires.0 (k e)), (positive (d e) (positive-d e)).1)
 
-pub loop-k-preserved : goal.loop-k-preserved
-loop-k-preserved c =
-    let b = (goal.at.loop-k-preserved c).After-remainder in
+pub loop-number-preserved : goal.loop-number-preserved
+loop-number-preserved c =
+    let b = (goal.at.loop-number-preserved c).After-remainder in
     let e = (goal.at.After-remainder b).After-a-1 in
-    let loop = e.loop-k in (
+    let loop = e.loop-number in (
       overwritten-next loop.invariant.0 (length-divide_by (nat_abs (d e)) (l e)) (pos 0) (omega arith)
           (quotient-stored (d e) (positive-d e) (l e) (k e) c.quotient.type_inv c.quotient.ensures (back e)),
       suffix-next loop.numbers (l e) (k e) _ loop.invariant.1,
@@ -99,11 +99,11 @@ loop-k-preserved c =
 
 pub returns : goal.returns
 returns c =
-    let loop = c.loop-k in
+    let loop = c.loop-number in
     let l = c.args.numbers.now in
     let d = to_z w64 (of_z w64 c.args.d) in record {
       value = sym (ap (λ a. divides_all (nat_abs a) l) (sym (to_z-of_z {w = w64} c.ranges.d))
-          ∙ sum-divided d l loop.k loop.invariant.2 (λ j m. coeff-past-length l j (omega arith)));
+          ∙ sum-divided d l loop.number-index loop.invariant.2 (λ j m. coeff-past-length l j (omega arith)));
       numbers_after = λ _. overwritten-all (rw (to_z-of_z {w = w64} c.ranges.d) at loop.invariant.0)
           (length-divide_by (nat_abs c.args.d) l) (omega arith);
     }

@@ -1,11 +1,10 @@
 -- `log_steps::combining::divided_row` meets its contract.
 -- Assumes nothing.
 use mathlib.Core.Path.{◌≡◌, refl, sym, ◌∙◌, ap, subst}
-use mathlib.Core.Bool.{Bool, true, false, not}
+use mathlib.Core.Bool.{Bool, true, false}
 use mathlib.Core.List.{List}
 use Prim.Native.Nat.{ℕ, ◌+◌, ◌^◌, ◌<◌}
 use native.Mathlib.Omega.{arith}
-use borrow.Author.Tests.{not-true, not-false}
 use lib.IntN.{ℤ, nat_abs}
 use lib.ListN.{length}
 use lib.Seq.{get_or-drop}
@@ -25,18 +24,20 @@ use Rattle.rules.specs.Elimination.{limit_coefficients}
 use Rattle.stores.specs.Flat.{part_count}
 use Rattle.working_rows.specs.declared.WorkingRow.{WorkingRow}
 use Rattle.working_rows.specs.Working.{numbers_held, Full, loaded}
-use Rattle.working_rows.specs.Worked.{refusal_of, worked_row}
+use Rattle.working_rows.specs.Worked.{refusal_of}
 use Rattle.combinations.specs.declared.Combination.{Combination}
 use Rattle.combinations.specs.Combination.{low_numbers, cut_low, StoreRow-cut}
 use Rattle.combinations.specs.Primitive.{cut-divided}
-use Rattle.combinations.specs.Undivided.{RowsFit, StoredFit, undivided_of, whole_row, loaded-held, stored-fits, undivided-beyond}
+use Rattle.combinations.specs.Undivided.{RowsFit, StoredFit, undivided_of, whole_row, loaded-held, stored-fits, undivided-low}
+use Rattle.combinations.specs.Parts.{some-passed, none-failed}
+use Rattle.std.proofs.Common.{Some}
 use Rattle.combinations.specs.Undivided.{undivided-whole, wholly-full, wholly-held, all-below}
 use Rattle.log_steps.specs.Logs.{divides_all}
 use Rattle.log_steps.specs.Divisions.{combined, cut-exact, divided-past, divided-low}
 use Rattle.log_steps.specs.StoreChanges.{positive-size}
-use Rattle.log_steps.specs.StoreCombinations.{judged_row, quotient_of, judged-exact, judged-inexact, quotient-exact, quotient-inexact}
+use Rattle.log_steps.specs.StoreCombinations.{Judged, judged_row, quotient_of, judged-exact, judged-inexact, quotient-exact, quotient-inexact}
 use Rattle.log_steps.proofs.combining.divided_row.Goals as goal
-use Rattle.log_steps.proofs.combining.divided_row.Goals.{After-undivided_stored-u, Start}
+use Rattle.log_steps.proofs.combining.divided_row.Goals.{Start}
 
 -- the two rows
 module _ (c : Start) where
@@ -86,13 +87,6 @@ module _ (c : Start) where
   held : numbers_held (loaded target 0) ≡ target
   held = loaded-held target long
 
-  -- the degrees of the combination
-  is-past : {t : Bool} → t ≡ not (low_degrees combination) → t ≡ true → low_degrees combination ≡ false
-  is-past e f = not-true _ (sym e ∙ f)
-
-  low_of : {t : Bool} → t ≡ not (low_degrees combination) → t ≡ false → low_degrees combination ≡ true
-  low_of e f = not-false _ (sym e ∙ f)
-
   tested : {t : Bool} → t ≡ divides_all (nat_abs (to_z w64 (of_z w64 c.args.d))) (coefficients_of combination)
       → t ≡ divides_all d (coefficients_of combination)
   tested e = e ∙ ap (λ a. divides_all (nat_abs a) (coefficients_of combination)) (to_z-of_z {w = w64} c.ranges.d)
@@ -121,46 +115,35 @@ module _ (c : Start) where
       cases false e = quotient-inexact d w (same ∙ e) ∙ sym (judged-inexact d g h target pivot e)
 
 -- the undivided row
-module _ (u : After-undivided_stored-u) where
-  abbrev start : Start
-  start = (goal.at.After-undivided_stored-u u).Start
+module _ (s : Start) (u : Combination) (e : Some u ≡ undivided_of (g s) (h s) (target s) (pivot s)) where
+  low : low_degrees (combination s) ≡ true
+  low = (some-passed _ (e ∙ undivided-low (g s) (h s) (target s) (pivot s))).0
 
-  abbrev made : Combination
-  made = u.undivided_stored-u.result
+  made : undivided_of (g s) (h s) (numbers_held (loaded (target s) 0)) (pivot s) ≡ Some u
+  made = ap (λ t. undivided_of (g s) (h s) t (pivot s)) (held s) ∙ sym e
 
-  past_is : made.beyond ≡ not (low_degrees (combination start))
-  past_is =
-      ap (λ r. r.beyond) u.undivided_stored-u.ensures ∙ undivided-beyond (g start) (h start) (target start) (pivot start)
+  abbrev numbers : List ℤ
+  numbers = low_numbers part_count (g s) (h s) (numbers_held (loaded (target s) 0)) (pivot s)
 
-  loaded-is : made ≡ undivided_of (g start) (h start) (numbers_held (loaded (target start) 0)) (pivot start)
-  loaded-is = u.undivided_stored-u.ensures ∙ ap (λ t. undivided_of (g start) (h start) t (pivot start)) (sym (held start))
+  whole : u ≡ whole_row numbers
+  whole = undivided-whole (fitted s) made
 
-  module _ (e : made.beyond ≡ false) where
-    low : (undivided_of (g start) (h start) (numbers_held (loaded (target start) 0)) (pivot start)).beyond ≡ false
-    low = ap (λ r. r.beyond) (sym loaded-is) ∙ e
+  row-full : Full u.row
+  row-full = subst (λ r. Full r.row) (sym whole) (wholly-full (fitted s) made)
 
-    abbrev numbers : List ℤ
-    numbers = low_numbers part_count (g start) (h start) (numbers_held (loaded (target start) 0)) (pivot start)
+  row-width : u.row.width ≡ width (row_of u.row.entries)
+  row-width = ap (λ r. r.row.width) whole ∙ sym (ap (λ r. width (row_of r.row.entries)) whole)
 
-    whole : made ≡ whole_row numbers
-    whole = loaded-is ∙ undivided-whole (fitted start) low
+  below : Below (2 ^ 63) numbers
+  below = all-below (fitted s) made
 
-    row-full : Full made.row
-    row-full = subst (λ r. Full r.row) (sym whole) (wholly-full (fitted start) low)
+  row-held : numbers_held u.row ≡ low_numbers part_count (g s) (h s) (target s) (pivot s)
+  row-held =
+      ap (λ r. numbers_held r.row) whole ∙ wholly-held (fitted s) made
+      ∙ ap (λ t. low_numbers part_count (g s) (h s) t (pivot s)) (held s)
 
-    row-width : made.row.width ≡ width (row_of made.row.entries)
-    row-width = ap (λ r. r.row.width) whole ∙ sym (ap (λ r. width (row_of r.row.entries)) whole)
-
-    below : Below (2 ^ 63) numbers
-    below = all-below (fitted start) low
-
-    row-held : numbers_held made.row ≡ low_numbers part_count (g start) (h start) (target start) (pivot start)
-    row-held =
-        ap (λ r. numbers_held r.row) whole ∙ wholly-held (fitted start) low
-        ∙ ap (λ t. low_numbers part_count (g start) (h start) t (pivot start)) (held start)
-
-pub undivided_stored-u-requires : goal.undivided_stored-u-requires
-undivided_stored-u-requires c = stored c
+pub undivided_stored-requires : goal.undivided_stored-requires
+undivided_stored-requires c = stored c
 
 pub divides_combination-requires : goal.divides_combination-requires
 divides_combination-requires c =
@@ -171,51 +154,39 @@ divides_combination-requires c =
       target_len = (s.requires.target_len.0, s.requires.target_len.1, s.requires.target_len.2, s.requires.target_len.3);
     }
 
-pub returns-then-divides_combination : goal.returns-then-divides_combination
+pub returns-then-not-divides_combination : goal.returns-then-not-divides_combination
 unfolding refusal_of
-returns-then-divides_combination c =
-    let u = (goal.at.returns-then-divides_combination c).After-undivided_stored-u in
-    let s = start u in
-    let past = is-past s (past_is u) c.if-u.true in
-    let exact = sym (tested s c.divides_combination.ensures) ∙ c.if-divides_combination.true in
+returns-then-not-divides_combination c =
+    let s = (goal.at.returns-then-not-divides_combination c).Start in
+    let inexact = sym (tested s c.divides_combination.ensures) ∙ c.if-not-divides_combination.true in
+    ap refusal_of (judged-inexact (d s) (g s) (h s) (target s) (pivot s) inexact)
+
+pub returns-else-not-divides_combination : goal.returns-else-not-divides_combination
+unfolding refusal_of
+returns-else-not-divides_combination c =
+    let s = (goal.at.returns-else-not-divides_combination c).Start in
+    let past = none-failed _ _ (c.in-None.ensures ∙ undivided-low (g s) (h s) (target s) (pivot s)) in
+    let exact = sym (tested s c.divides_combination.ensures) ∙ c.if-not-divides_combination.false in
     let e = judged-exact (d s) (g s) (h s) (target s) (pivot s) exact
     ∙ divided-past (d s) (positive s) (combination s) (true-T _ exact) past in
-    record {
-      refusal_value = c.broken.ensures.0 ∙ sym (ap refusal_of e);
-      row_value = c.broken.ensures.1 ∙ sym (ap worked_row e);
-    }
-
-pub returns-then-u : goal.returns-then-u
-unfolding refusal_of
-returns-then-u c =
-    let s = (goal.at.returns-then-u c).Start in
-    let inexact = sym (tested s c.divides_combination.ensures) ∙ c.if-divides_combination.false in
-    let e = judged-inexact (d s) (g s) (h s) (target s) (pivot s) inexact in
-    record {
-      refusal_value = c.broken-then-u.ensures.0 ∙ sym (ap refusal_of e);
-      row_value = c.broken-then-u.ensures.1 ∙ sym (ap worked_row e);
-    }
+    let limit = ap refusal_of e in (λ z. omega (arith, limit, z), (sym limit, tt))
 
 pub exact_quotient-requires : goal.exact_quotient-requires
 exact_quotient-requires c =
-    let u = (goal.at.exact_quotient-requires c).After-undivided_stored-u in
-    let s = start u in
-    let e = c.if-u.false in record {
-      full = (row-full u e, row-width u e, rw (to_z-of_z {w = w64} s.ranges.d) s.requires.t);
+    let s = (goal.at.exact_quotient-requires c).Start in
+    let u = c.in-Some.u in
+    let e = c.in-Some.ensures in record {
+      full = (row-full s u e, row-width s u e, rw (to_z-of_z {w = w64} s.ranges.d) s.requires.t);
       below = (
-        subst (λ r. Below (2 ^ 63) r.row.entries) (sym (whole u e)) (below-part (2 ^ 63) 0 entries_length (numbers u e) (below u e)),
-        subst (λ r. Below (2 ^ 63) r.row.right) (sym (whole u e)) (λ k. rw get_or-drop (below u e (entries_length + k))),
+        subst (λ r. Below (2 ^ 63) r.row.entries) (sym (whole s u e)) (below-part (2 ^ 63) 0 entries_length (numbers s u e) (below s u e)),
+        subst (λ r. Below (2 ^ 63) r.row.right) (sym (whole s u e)) (λ k. rw get_or-drop (below s u e (entries_length + k))),
       );
     }
 
-pub returns : goal.returns
-returns c =
-    let u = (goal.at.returns c).After-undivided_stored-u in
-    let s = start u in
-    let f = c.if-u.false in
-    let e = (λ k. quotient_of (nat_abs (to_z-of_z {w = w64} s.ranges.d k)) (made u).row)
-    ∙ quotient-judged s (made u).row (low_of s (past_is u) f) (row-held u f) in
-    record {
-      refusal_value = c.exact_quotient.ensures.0 ∙ ap refusal_of e;
-      row_value = c.exact_quotient.ensures.1 ∙ ap worked_row e;
-    }
+pub returns-in-Some : goal.returns-in-Some
+returns-in-Some c =
+    let s = (goal.at.returns-in-Some c).Start in
+    let u = c.in-Some.u in
+    let e = c.in-Some.ensures in
+    let same = (λ k. quotient_of (nat_abs (to_z-of_z {w = w64} s.ranges.d k)) u.row) ∙ quotient-judged s u.row (low s u e) (row-held s u e) in
+    subst (Judged c.exact_quotient.result) same c.exact_quotient.ensures

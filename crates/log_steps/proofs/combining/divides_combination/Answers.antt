@@ -58,8 +58,7 @@ module _ (c : After-divides_sum) where
 
 pub loop-e-init : goal.loop-e-init
 unfolding every
-loop-e-init c =
-    (omega arith, refl)
+loop-e-init c = refl
 
 pub divides_sum-requires : goal.divides_sum-requires
 divides_sum-requires c =
@@ -91,11 +90,9 @@ returns-then-not-divides_sum c =
 
 pub loop-e-preserved : goal.loop-e-preserved
 loop-e-preserved c =
-    let b = (goal.at.loop-e-preserved c).After-divides_sum in (
-      omega (arith, b.loop-e-test.true),
-      every-longer (divides_all (nat_abs (d b))) (ps b) (e b) [] (below b) (at b).loop-e.invariant.1
-          (tested b ∙ c.if-not-divides_sum.false),
-    )
+    let b = (goal.at.loop-e-preserved c).After-divides_sum in
+    every-longer (divides_all (nat_abs (d b))) (ps b) (e b) [] (below b) (at b).loop-e.invariant
+    (tested b ∙ c.if-not-divides_sum.false)
 
 pub returns : goal.returns
 returns c =
@@ -107,4 +104,4 @@ returns c =
     sym (ap (λ x. divides_all (nat_abs x) (coefficients_of (combined a.g.now a.h.now a.target.now a.pivot.now)))
     (sym (to_z-of_z {w = w64} c.ranges.d))
     ∙ parts-divided a.g.now a.h.now a.target.now a.pivot.now d
-    ∙ ap (every (divides_all d)) (sym (take_all c.loop-e.e ps all)) ∙ c.loop-e.invariant.1)
+    ∙ ap (every (divides_all d)) (sym (take_all c.loop-e.e ps all)) ∙ c.loop-e.invariant)

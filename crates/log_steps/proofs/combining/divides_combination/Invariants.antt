@@ -2,7 +2,6 @@
 -- Assumes nothing.
 use mathlib.Core.Path.{◌≡◌}
 use mathlib.Core.Bool.{true}
-use Prim.Native.Nat.{◌-◌, ◌≤◌}
 use lib.IntN.{nat_abs}
 use lib.ListN.{take}
 use Rattle.lists.specs.Tests.{every}
@@ -13,7 +12,4 @@ use Rattle.log_steps.proofs.combining.divides_combination.Given as goal
 
 abbrev pub invariant-loop-e : goal.invariant-loop-e
 invariant-loop-e l =
-    (l.e ≤ part_count) × (every (divides_all (nat_abs l.d)) (take l.e (combinations part_count l.g l.h l.target l.pivot)) ≡ true)
-
-abbrev pub decreases-loop-e : goal.decreases-loop-e
-decreases-loop-e l = part_count - l.e
+    every (divides_all (nat_abs l.d)) (take l.e (combinations part_count l.g l.h l.target l.pivot)) ≡ true

@@ -4,6 +4,7 @@ use mathlib.Core.Path.{◌≡◌, sym, ◌∙◌, ap, ap₂}
 use mathlib.Core.Bool.{Bool, true, false, ◌&&◌, and-false}
 use mathlib.Core.List.{List, ◌++◌}
 use Prim.Native.Nat.{ℕ}
+use native.Mathlib.Omega.{arith}
 use lib.IntN.{ℤ, nat_abs}
 use mir.Syntax.{w64}
 use mir.Val.{to_z, of_z}
@@ -124,7 +125,7 @@ returns-then-not-divide_exactly c =
     let s = (goal.at.returns-then-not-divide_exactly c).Start in
     let first = c.divide_exactly.ensures.value ∙ same_left s in
     let e = inexact s (ap (λ t. t && divides_all (n s) (right s)) (sym first ∙ c.if-not-divide_exactly.true)) in
-    (c.broken.ensures.0 ∙ sym (ap refusal_of e), c.broken.ensures.1 ∙ sym (ap worked_row e))
+    ap refusal_of e
 
 pub returns-then-not-divide_exactly-2 : goal.returns-then-not-divide_exactly-2
 unfolding refusal_of
@@ -132,11 +133,8 @@ returns-then-not-divide_exactly-2 c =
     let s = (goal.at.returns-then-not-divide_exactly-2 c).Start in
     let second = c.divide_exactly-2.ensures.value ∙ same-right s in
     let e = inexact s (ap (λ t. divides_all (n s) (left s) && t) (sym second ∙ c.if-not-divide_exactly-2.true)
-    ∙ and-false (divides_all (n s) (left s))) in (
-      c.broken-then-not-divide_exactly-2.ensures.0 ∙ sym (ap refusal_of e),
-      c.broken-then-not-divide_exactly-2.ensures.1
-          ∙ sym (ap worked_row e),
-    )
+    ∙ and-false (divides_all (n s) (left s))) in
+    ap refusal_of e
 
 pub returns-then-not-all_small : goal.returns-then-not-all_small
 unfolding refusal_of
@@ -145,7 +143,7 @@ returns-then-not-all_small c =
     let s = start q in
     let past = ap (every small) (sym (divided-left q).1) ∙ sym c.all_small.ensures ∙ c.if-not-all_small.true in
     let e = large s (divided-left q).0 (divided-right q).0 (ap (λ t. t && every small (divide_by (n s) (right s))) past) in
-    (c.broken-then-not-all_small.ensures.0 ∙ sym (ap refusal_of e), c.broken-then-not-all_small.ensures.1 ∙ sym (ap worked_row e))
+    let limit = ap refusal_of e in (λ z. omega (arith, limit, z), (sym limit, tt))
 
 pub returns-then-not-all_small-2 : goal.returns-then-not-all_small-2
 unfolding refusal_of
@@ -155,7 +153,7 @@ returns-then-not-all_small-2 c =
     let past = ap (every small) (sym (divided-right q).1) ∙ sym c.all_small-2.ensures ∙ c.if-not-all_small-2.true in
     let first = every small (divide_by (n s) (left s)) in
     let e = large s (divided-left q).0 (divided-right q).0 (ap (λ t. first && t) past ∙ and-false first) in
-    (c.broken-then-not-all_small-2.ensures.0 ∙ sym (ap refusal_of e), c.broken-then-not-all_small-2.ensures.1 ∙ sym (ap worked_row e))
+    let limit = ap refusal_of e in (λ z. omega (arith, limit, z), (sym limit, tt))
 
 pub returns : goal.returns
 unfolding refusal_of
@@ -166,8 +164,12 @@ returns c =
     let two = divided-right q in
     let little = ap (every small) (sym one.1) ∙ sym c.all_small.ensures ∙ c.if-not-all_small.false in
     let also = ap (every small) (sym two.1) ∙ sym c.all_small-2.ensures ∙ c.if-not-all_small-2.false in
-    let e = within-limit s one.0 two.0 (ap₂ ◌&&◌ little also) in (
-      sym (ap refusal_of e),
-      ap₂ (λ a b. record { entries = a; right = b; width = s.args.row.width }) one.1 two.1 ∙ new-worked s one.0
-          ∙ sym (ap worked_row e),
+    let e = within-limit s one.0 two.0 (ap₂ ◌&&◌ little also) in
+    let limit = ap refusal_of e in (
+      λ z. omega (arith, limit, z),
+      (
+        sym limit,
+        ap₂ (λ a b. record { entries = a; right = b; width = s.args.row.width }) one.1 two.1 ∙ new-worked s one.0
+            ∙ sym (ap worked_row e),
+      ),
     )

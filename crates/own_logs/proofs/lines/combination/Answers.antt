@@ -19,9 +19,9 @@ use Rattle.reduction.specs.MultiplierSizes.{Sixteen, multipliers-fit}
 use Rattle.reduction.specs.StoreExchange.{length-entry, small-entry}
 use Rattle.own_logs.specs.Own.{change_numbers, divisor_of}
 use Rattle.own_logs.specs.LineLaws.{divisor-zero, divisor-some}
-use Rattle.own_logs.specs.Contents.{ContentOf, content-undivided}
+use Rattle.own_logs.specs.Contents.{ContentOf, content_in, content-undivided}
 use Rattle.own_logs.proofs.lines.combination.Goals as goal
-use Rattle.own_logs.proofs.lines.combination.Goals.{After-put_multipliers_at, After-undivided_stored-made, Joined-content-eq0, Start}
+use Rattle.own_logs.proofs.lines.combination.Goals.{After-put_multipliers_at, After-content_of-content, Joined-content-eq0, Start}
 use Rattle.own_logs.proofs.lines.combination.Goals.{else-content-eq0, then-content-eq0}
 
 -- the two rows
@@ -90,22 +90,22 @@ module _ (c : After-put_multipliers_at) where
       }
 
 -- the content
-module _ (c : After-undivided_stored-made) where
+module _ (c : After-content_of-content) where
   abbrev multiplied : After-put_multipliers_at
-  multiplied = (goal.at.After-undivided_stored-made c).After-put_multipliers_at
+  multiplied = (goal.at.After-content_of-content c).After-put_multipliers_at
 
   abbrev base : Start
   base = start multiplied
 
   abbrev divided-by : ℕ
-  divided-by = c.undivided_stored-made.result.content
+  divided-by = c.content_of-content.result
 
   found : ContentOf (result base) divided-by
   found =
       subst₂ (λ g h. ContentOf (combine g h (row_of (target base)) (row_of (pivot base))) divided-by) (g-is multiplied)
       (h-is multiplied)
-      (subst (λ m. ContentOf (combine (g multiplied) (h multiplied) (row_of (target base)) (row_of (pivot base))) m.content)
-      (sym c.undivided_stored-made.ensures) (content-undivided (stored multiplied)))
+      (subst (ContentOf (combine (g multiplied) (h multiplied) (row_of (target base)) (row_of (pivot base))))
+      (sym (c.content_of-content.ensures ∙ ap content_in c.undivided_stored.ensures)) (content-undivided (stored multiplied)))
 
 -- the integer
 module _ (c : Joined-content-eq0) where
@@ -113,14 +113,14 @@ module _ (c : Joined-content-eq0) where
   divisor-below =
       elim c.if-content-eq0.branch [
         | then-content-eq0 w ↦ omega arith
-        | else-content-eq0 w ↦ omega (arith, (found (goal.at.Joined-content-eq0 c).After-undivided_stored-made).below)
+        | else-content-eq0 w ↦ omega (arith, (found (goal.at.Joined-content-eq0 c).After-content_of-content).below)
       ]
 
-  divisor-is : low_degrees (result (base (goal.at.Joined-content-eq0 c).After-undivided_stored-made)) ≡ true → c.if-content-eq0.divisor
-      ≡ divisor_of (result (base (goal.at.Joined-content-eq0 c).After-undivided_stored-made))
+  divisor-is : low_degrees (result (base (goal.at.Joined-content-eq0 c).After-content_of-content)) ≡ true → c.if-content-eq0.divisor
+      ≡ divisor_of (result (base (goal.at.Joined-content-eq0 c).After-content_of-content))
   divisor-is low =
-      let r = result (base (goal.at.Joined-content-eq0 c).After-undivided_stored-made) in
-      let same = (found (goal.at.Joined-content-eq0 c).After-undivided_stored-made).content-is low in
+      let r = result (base (goal.at.Joined-content-eq0 c).After-content_of-content) in
+      let same = (found (goal.at.Joined-content-eq0 c).After-content_of-content).content-is low in
       elim c.if-content-eq0.branch [
         | then-content-eq0 w ↦ w.divisor-is ∙ sym (divisor-zero r (sym same ∙ w.if-content-eq0.true))
         | else-content-eq0 w ↦ w.divisor-is ∙ same ∙ sym (divisor-some r (λ e. w.if-content-eq0.false (same ∙ e)))
@@ -139,13 +139,13 @@ put_multipliers_at-requires c =
       t_2 = c.requires.t;
     }
 
-pub undivided_stored-made-requires : goal.undivided_stored-made-requires
-undivided_stored-made-requires c = stored (goal.at.undivided_stored-made-requires c).After-put_multipliers_at
+pub undivided_stored-requires : goal.undivided_stored-requires
+undivided_stored-requires c = stored (goal.at.undivided_stored-requires c).After-put_multipliers_at
 
 pub combining-requires : goal.combining-requires
 combining-requires c =
     let joined = (goal.at.combining-requires c).Joined-content-eq0 in
-    let e = multiplied (goal.at.Joined-content-eq0 joined).After-undivided_stored-made in
+    let e = multiplied (goal.at.Joined-content-eq0 joined).After-content_of-content in
     let b = start e in
     record {
       i_bound = (omega (arith, b.requires.i_lt_most_equations.0), omega (arith, b.requires.i_lt_most_equations.1), divisor-below joined);
@@ -156,7 +156,7 @@ pub returns : goal.returns
 unfolding change_numbers
 returns c =
     let joined = (goal.at.returns c).Joined-content-eq0 in
-    let e = multiplied (goal.at.Joined-content-eq0 joined).After-undivided_stored-made in
+    let e = multiplied (goal.at.Joined-content-eq0 joined).After-content_of-content in
     let b = start e in
     record {
       long =

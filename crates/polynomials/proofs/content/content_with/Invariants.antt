@@ -2,13 +2,9 @@
 -- the content of the coefficients from i on.
 -- Assumes nothing.
 use mathlib.Core.Path.{◌≡◌}
-use Prim.Native.Nat.{◌≤◌, ◌-◌}
-use lib.ListN.{drop}
+use lib.ListN.{take, drop}
 use Rattle.algebra.specs.Gcd.{gcd, content}
 use Rattle.polynomials.proofs.content.content_with.Given as goal
 
-abbrev pub invariant-loop-i : goal.invariant-loop-i
-invariant-loop-i l = (l.i ≤ l.n) × (gcd l.start (content l.p) ≡ gcd l.d (content (drop l.i l.p)))
-
-abbrev pub decreases-loop-i : goal.decreases-loop-i
-decreases-loop-i l = l.n - l.i
+abbrev pub invariant-loop-a : goal.invariant-loop-a
+invariant-loop-a l = gcd l.start (content l.p) ≡ gcd l.d (content (drop l.a-index (take l.n l.p)))

@@ -24,7 +24,7 @@ module _ (c : After-quotient-arg-1) where
   p = c.args.p.now
 
   abbrev i : ℕ
-  i = c.loop-i.i
+  i = c.loop-a.a-index
 
   abbrev d : ℤ
   d = to_z w64 (of_z w64 c.args.d)
@@ -32,18 +32,18 @@ module _ (c : After-quotient-arg-1) where
   positive-d : T (lt_z (pos 0) d)
   positive-d = rw (to_z-of_z c.ranges.d) c.requires.1
 
-  back : to_z w64 (of_z w64 (get_or c.loop-i.p i (pos 0))) ≡ get_or p i (pos 0)
+  back : to_z w64 (of_z w64 (get_or c.loop-a.p i (pos 0))) ≡ get_or p i (pos 0)
   back =
-      let now-p = c.loop-i.p in
-      read_back (get_or now-p i (pos 0)) c.quotient-arg-1.given ∙ suffix-first now-p p i (pos 0) c.loop-i.invariant.1
+      let now-p = c.loop-a.p in
+      read_back (get_or now-p i (pos 0)) c.quotient-arg-1.given ∙ suffix-first now-p p i (pos 0) c.loop-a.invariant.1
 
 pub quotient-requires : goal.quotient-requires
 quotient-requires c = (rw (back c) (c.requires.0 (i c)), (positive (d c) (positive-d c)).1)
 
-pub loop-i-preserved : goal.loop-i-preserved
-loop-i-preserved c =
+pub loop-a-preserved : goal.loop-a-preserved
+loop-a-preserved c =
     let e = c.before in
-    let loop = e.loop-i in (
+    let loop = e.loop-a in (
       overwritten-next loop.invariant.0 (length-divide_by (nat_abs (d e)) (p e)) (pos 0) (omega arith)
           (quotient-stored (d e) (positive-d e) (p e) (i e) c.quotient.type_inv c.quotient.ensures (back e)),
       suffix-next loop.p (p e) (i e) _ loop.invariant.1,
@@ -52,5 +52,5 @@ loop-i-preserved c =
 pub returns : goal.returns
 returns c =
     let start = c.before.before in
-    overwritten-all (rw (to_z-of_z start.ranges.d) at c.loop-i.invariant.0)
+    overwritten-all (rw (to_z-of_z start.ranges.d) at c.loop-a.invariant.0)
     (length-divide_by (nat_abs start.args.d) start.args.p.now) (omega arith)

@@ -22,12 +22,12 @@ module _ (c : After-negated-arg-1) where
   p = c.args.p.now
 
   abbrev i : ℕ
-  i = c.loop-i.i
+  i = c.loop-a.a-index
 
-  back : to_z w64 (of_z w64 (get_or c.loop-i.p i (pos 0))) ≡ get_or p i (pos 0)
+  back : to_z w64 (of_z w64 (get_or c.loop-a.p i (pos 0))) ≡ get_or p i (pos 0)
   back =
-      let now-p = c.loop-i.p in
-      read_back (get_or now-p i (pos 0)) c.negated-arg-1.given ∙ suffix-first now-p p i (pos 0) c.loop-i.invariant.1
+      let now-p = c.loop-a.p in
+      read_back (get_or now-p i (pos 0)) c.negated-arg-1.given ∙ suffix-first now-p p i (pos 0) c.loop-a.invariant.1
 
 stored : (c : After-negated)
     → to_z w64 (of_z w64 c.negated.result) ≡ get_or (negate (p c.before)) (i c.before) (pos 0)
@@ -39,14 +39,14 @@ stored c =
 pub negated-requires : goal.negated-requires
 negated-requires c = rw (back c) (c.requires.1 (i c))
 
-pub loop-i-preserved : goal.loop-i-preserved
-loop-i-preserved c =
+pub loop-a-preserved : goal.loop-a-preserved
+loop-a-preserved c =
     let e = c.before in
-    let loop = e.loop-i in (
-      overwritten-next loop.invariant.0 (omega (arith, length-negate (p e))) (pos 0) e.loop-i-test.true (stored c),
+    let loop = e.loop-a in (
+      overwritten-next loop.invariant.0 (omega (arith, length-negate (p e))) (pos 0) e.loop-a-test.true (stored c),
       suffix-next loop.p (p e) (i e) _ loop.invariant.1,
     )
 
 pub returns : goal.returns
 returns c =
-    overwritten-all c.loop-i.invariant.0 (omega (arith, length-negate c.args.p.now)) (omega arith)
+    overwritten-all c.loop-a.invariant.0 (omega (arith, length-negate c.args.p.now)) (omega arith)

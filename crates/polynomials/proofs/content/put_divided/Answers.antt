@@ -25,17 +25,17 @@ pub divide_in_place-requires : goal.divide_in_place-requires
 divide_in_place-requires c =
     let copy = c.before.before.before in
     let start = copy.before.before in
-    (subst (Below (2 ^ 63)) (sym copy.put_copied.ensures) start.requires.2, rw (back start) start.requires.3)
+    (subst (Below (2 ^ 63)) (sym copy.copy_from_slice.ensures.after) start.requires.2, rw (back start) start.requires.3)
 
 pub returns-then-d-ne1 : goal.returns-then-d-ne1
 returns-then-d-ne1 c =
     let copy = c.before.before.before.before.before in
     let start = copy.before.before in
-    c.divide_in_place.ensures ∙ ap₂ (λ z q. divide_by (nat_abs z) q) (back start) copy.put_copied.ensures
+    c.divide_in_place.ensures ∙ ap₂ (λ z q. divide_by (nat_abs z) q) (back start) copy.copy_from_slice.ensures.after
 
 pub returns-else-d-ne1 : goal.returns-else-d-ne1
 returns-else-d-ne1 c =
     let copy = c.before.before in
     let start = copy.before.before in
     let one : start.args.d ≡ pos 1 = of_z-inj {z = pos 1} start.ranges.d (sfits_lit tt) c.if-d-ne1.false in
-    copy.put_copied.ensures ∙ sym (divide_by-one (p start)) ∙ ap (λ z. divide_by (nat_abs z) (p start)) (sym one)
+    copy.copy_from_slice.ensures.after ∙ sym (divide_by-one (p start)) ∙ ap (λ z. divide_by (nat_abs z) (p start)) (sym one)

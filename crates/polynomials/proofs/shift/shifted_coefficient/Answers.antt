@@ -71,23 +71,11 @@ module _ (c : After-sum-1) where
 pub loop-j-init : goal.loop-j-init
 loop-j-init c = (omega arith, sym (expansion-first c.args.p.now c.args.k))
 
-pub offset_bounds-p-j : goal.offset_bounds-p-j
-offset_bounds-p-j c = omega arith
-
-pub bounds-p-j : goal.bounds-p-j
-bounds-p-j c = omega arith
-
 pub overflow_mul-sum : goal.overflow_mul-sum
 overflow_mul-sum c = simp (number_is c, to_z-of_z (fits-number c), to_z-of_z (fits-x c)) (fits-term c)
 
 pub overflow_add-sum : goal.overflow_add-sum
 overflow_add-sum c = rw (next c) (sum_fits (s c) (suc (j c)) (omega arith))
-
-pub overflow_add-j : goal.overflow_add-j
-overflow_add-j c = omega arith
-
-pub loop-j-smaller : goal.loop-j-smaller
-loop-j-smaller c = omega arith
 
 pub loop-j-preserved : goal.loop-j-preserved
 loop-j-preserved c =

@@ -2,14 +2,10 @@
 -- before j = k are zero.
 -- Assumes nothing.
 use mathlib.Core.Path.{◌≡◌}
-use Prim.Native.Nat.{◌-◌, ◌≤◌}
-use lib.ListN.{length}
+use Prim.Native.Nat.{◌≤◌}
 use Rattle.rules.specs.Limits.{coefficient_count}
 use Rattle.polynomials.specs.Shift.{expansion}
 use Rattle.polynomials.proofs.shift.shifted_coefficient.Given as goal
 
 abbrev pub invariant-loop-j : goal.invariant-loop-j
 invariant-loop-j l = (l.j ≤ coefficient_count) × (l.sum ≡ expansion l.p l.k l.j)
-
-abbrev pub decreases-loop-j : goal.decreases-loop-j
-decreases-loop-j l = length l.p - l.j

@@ -1,5 +1,5 @@
 -- `reading::order::columns_at` meets its contract. The loop's invariant: the array holds the first i columns and zeros after them, and
--- the others are read from `next`. The measure is their number.
+-- the others are read from `next`.
 -- Assumes nothing.
 use mathlib.Core.List.{[]}
 use Prim.Native.Nat.{◌-◌, ◌≤◌}
@@ -15,6 +15,3 @@ invariant-loop-i l =
     (l.i ≤ l.count)
     × FilledTo column_count 0 (read_columns l.m l.count [] (drop l.at l.bytes)) l.bytes l.order l.i l.next
     (read_columns l.m (l.count - l.i) (taken_of l.order l.i) (drop l.next l.bytes))
-
-abbrev pub decreases-loop-i : goal.decreases-loop-i
-decreases-loop-i l = l.count - l.i

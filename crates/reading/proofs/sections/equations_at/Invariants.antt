@@ -1,7 +1,6 @@
 -- `reading::sections::equations_at` meets its contract. The loop's invariant: the first i equations are in the store, and the others are
--- read from `next`. The measure is their number.
+-- read from `next`.
 -- Assumes nothing.
-use Prim.Native.Nat.{◌-◌}
 use Rattle.rules.specs.Limits.{row_length}
 use Rattle.rules.specs.Stores.{row_of}
 use Rattle.rules.specs.Sheets.{read_equation}
@@ -12,6 +11,3 @@ use Rattle.reading.proofs.sections.equations_at.Given as goal
 abbrev pub invariant-loop-i : goal.invariant-loop-i
 invariant-loop-i l =
     StoredTo row_length row_of (read_equation (the_sizes_of l.z)) l.equations l.bytes l.at l.initial.rows l.rows l.i l.next
-
-abbrev pub decreases-loop-i : goal.decreases-loop-i
-decreases-loop-i l = l.equations - l.i

@@ -5,7 +5,7 @@ use mathlib.Core.List.{List}
 use Prim.Native.Nat.{◌-◌}
 use native.Mathlib.Nat.{le_refl}
 use native.Mathlib.Omega.{arith}
-use borrow.Author.Rules.{sfits_of}
+use borrow.Author.Rules.{rules}
 use borrow.Rule.Slice.PartMut.{same_len_mid}
 use lib.Dec.{lit≤}
 use lib.IntN.{ℤ}
@@ -14,23 +14,16 @@ use mir.Syntax.{w64}
 use mir.Val.{SFits, to_z, of_z}
 use mir.Facts.{to_z-of_z}
 use Rattle.rules.specs.Limits.{relation_length}
-use Rattle.tokens.specs.Fields.{answer-fault, answer-got, refuses, answers-as, answers-made, then-got, then-fault}
+use Rattle.tokens.specs.Fields.{read-err, read-ok, read-within, fails-on, reads-as, reads-made, then-got, then-fault}
 use Rattle.reading.specs.Zeros.{length-zeros}
 use Rattle.reading.specs.Sections.{relation_of-back, relation-behind, relation_then, relation-is}
 use Rattle.reading.proofs.sections.relation_at.Goals as goal
 use Rattle.reading.proofs.sections.relation_at.Goals.{After-struct_told-1, Start}
 
-pub small_at-n-requires : goal.small_at-n-requires
-small_at-n-requires c = c.requires.at_in_bounds.0
-
-pub no_part-requires : goal.no_part-requires
-no_part-requires c = tt
-
-pub returns-then-n-ne0 : goal.returns-then-n-ne0
-returns-then-n-ne0 c =
-    refuses c.if-n-ne0.true
-    (relation-is _ _ ∙ then-fault _ (answer-fault c.if-n-ne0.true c.small_at-n.ensures.answers))
-    c.no_part.ensures
+pub returns-in_err-n : goal.returns-in_err-n
+returns-in_err-n c =
+    fails-on _ c.in_err-n.field-0.0 c.from_residual.ensures.1
+    (relation-is _ _ ∙ then-fault _ (read-err c.in_err-n.ensures))
 
 -- The relation that was lent has numbers.
 whole : (c : Start) → length c.args.relation.now ≡ relation_length
@@ -42,7 +35,7 @@ bounds-relation-0 c = omega (arith, whole (goal.at.bounds-relation-0 c).Start)
 -- The relation with its n0.
 module _ (c : After-struct_told-1) where
   abbrev value : ℤ
-  value = c.small_at-n.result.value
+  value = c.in_ok-n.n.value
 
   abbrev numbers : List ℤ
   numbers = set c.args.relation.now 0 (to_z w64 (of_z w64 value))
@@ -63,7 +56,7 @@ slice_bounds-equation_at-end c = le_refl _
 pub equation_at-requires : goal.equation_at-requires
 equation_at-requires c =
     record {
-      at_in_bounds = (c.small_at-n.ensures.answers.within, c.requires.at_in_bounds.1);
+      at_in_bounds = (read-within c.in_ok-n.ensures, c.requires.at_in_bounds.1);
       row_value = relation-behind c.args.relation.now _
           c.requires.relation_value;
     }
@@ -78,14 +71,13 @@ pub returns : goal.returns
 unfolding relation_then
 returns c =
     let v = value (goal.at.returns c).After-struct_told-1 in
-    let f : SFits w64 v = sfits_of c.struct_told-1.given.1.0.1 in
+    let f : SFits w64 v = search rules in
     rw (
       relation_of-back c.args.relation.now c.equation_at.new.row (to_z w64 (of_z w64 v))
           (whole (goal.at.returns c).Start),
       to_z-of_z {w = w64} f,
     )
-    (answers-as (answers-made (λ r. record { index = v; row = r }) c.equation_at.ensures)
+    (reads-as (reads-made (λ r. record { index = v; row = r }) c.equation_at.ensures)
     (sym (relation-is _ _
     ∙ then-got _
-    (answer-got c.if-n-ne0.false
-    c.small_at-n.ensures.answers))))
+    (read-ok c.in_ok-n.ensures))))

@@ -1,15 +1,15 @@
 -- `reading::sections::relations_at` meets its contract. The loop's invariant: the first i relations are in the store, and the others are
--- read from `next`. The measure is their number.
+-- read from `next`.
 -- Assumes nothing.
 use mathlib.Core.Path.{◌≡◌, ap, ◌∙◌}
 use Prim.Native.Nat.{◌+◌, ◌*◌, ◌-◌, ◌≤◌}
 use native.Mathlib.Nat.{le-add_right}
 use native.Mathlib.Omega.{arith}
-use borrow.Rule.Slice.PartMut.{mid_of, same_len_mid}
+use borrow.Rule.Slice.PartMut.{mid_of}
 use lib.ListN.{length}
 use Rattle.rules.specs.Limits.{relation_length}
 use Rattle.rules.specs.Calls.{zeros}
-use Rattle.tokens.specs.Fields.{answer-fault, answer-got, refuses, gives}
+use Rattle.tokens.specs.Fields.{read-err, read-ok, read-within, fails-on, reads}
 use Rattle.reading.specs.Zeros.{length-zeros}
 use Rattle.reading.specs.Sections.{relations-each, stored-begins, stored-ends, stored_refused, stored-part, stored-goes-on}
 use Rattle.reading.specs.Sections.{relations_of-parts}
@@ -47,49 +47,28 @@ slice_bounds-relation_at-start c = le-add_right _ relation_length
 pub slice_bounds-relation_at-end : goal.slice_bounds-relation_at-end
 slice_bounds-relation_at-end c = rw c.loop-i.invariant.long (room c)
 
-pub relation_at-e-requires : goal.relation_at-e-requires
-relation_at-e-requires c = record {
+pub relation_at-requires : goal.relation_at-requires
+relation_at-requires c = record {
   at_in_bounds = (c.loop-i.invariant.within, c.requires.at_in_bounds.1);
-  relation_value = part (goal.at.relation_at-e-requires c).In-loop-i;
+  relation_value = part (goal.at.relation_at-requires c).In-loop-i;
 }
 
-pub no_part-requires : goal.no_part-requires
-no_part-requires c = tt
-
-pub shape_of-relations-then-e-ne0 : goal.shape_of-relations-then-e-ne0
-shape_of-relations-then-e-ne0 c =
-    let l = c.loop-i in
-    same_len_mid (l.i * relation_length) (l.i * relation_length + relation_length - l.i * relation_length) l.relations
-    c.relation_at-e.new.relation
-    c.relation_at-e.auto.relation ∙ l.invariant.long
-
-pub returns-then-e-ne0 : goal.returns-then-e-ne0
-returns-then-e-ne0 c =
-    refuses c.if-e-ne0.true
+pub returns-in_err-next : goal.returns-in_err-next
+returns-in_err-next c =
+    fails-on _ c.in_err-next.field-0.0 c.from_residual.ensures.1
     (relations-each _ _ _
     ∙ stored_refused _ _ _ _ _ _ _ _ _ _ c.loop-i.invariant
     c.loop-i-test.true _
-    (answer-fault c.if-e-ne0.true c.relation_at-e.ensures))
-    c.no_part.ensures
-
-pub overflow_add-i : goal.overflow_add-i
-overflow_add-i c = omega (
-  arith,
-  c.requires.count_bound.0,
-  c.loop-i-test.true,
-)
-
-pub loop-i-smaller : goal.loop-i-smaller
-loop-i-smaller c = omega (arith, c.loop-i-test.true)
+    (read-err c.in_err-next.ensures))
 
 pub loop-i-preserved : goal.loop-i-preserved
 loop-i-preserved c =
     stored-goes-on _ _ _ _ _ _ _ _ _ _ c.loop-i.invariant
     c.loop-i-test.true _ _
-    (c.relation_at-e.auto.relation
+    (c.relation_at.auto.relation
     ∙ ap length (part (goal.at.loop-i-preserved c).In-loop-i) ∙ length-zeros relation_length)
     (room (goal.at.loop-i-preserved c).In-loop-i)
-    (answer-got c.if-e-ne0.false c.relation_at-e.ensures) c.relation_at-e.ensures.within
+    (read-ok c.in_ok-next.ensures) (read-within c.in_ok-next.ensures)
 
 pub shape_of-relations : goal.shape_of-relations
 shape_of-relations c = c.loop-i.invariant.long
@@ -97,6 +76,6 @@ shape_of-relations c = c.loop-i.invariant.long
 pub returns : goal.returns
 returns c =
     let inv = c.loop-i.invariant in
-    gives (relations_of-parts _ _)
+    reads (relations_of-parts _ _)
     (relations-each _ _ _ ∙ stored-ends _ _ _ _ _ _ _ _ _ _ inv (omega (arith, inv.counted, c.loop-i-test.false)))
     inv.within

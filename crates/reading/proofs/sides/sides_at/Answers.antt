@@ -1,22 +1,17 @@
 -- `reading::sides::sides_at` meets its contract. The loop's invariant: the first i sides are in the store, and the others are read from
--- `next`. The measure is their number.
+-- `next`.
 -- Assumes nothing.
-use mathlib.Core.Path.{refl, ◌∙◌}
-use mathlib.Core.Bool.{◌&&◌}
-use Prim.Native.Nat.{ℕ, suc, ◌+◌, ◌*◌, ◌-◌, ◌≤◌}
+use mathlib.Core.Path.{refl}
+use Prim.Native.Nat.{ℕ, suc, ◌+◌, ◌*◌, ◌≤◌}
 use native.Mathlib.Nat.{le-add_right, le_trans, mul-le-mul_right, mul-le-mul_left, suc-mul}
 use native.Mathlib.Omega.{arith}
-use borrow.Rule.Slice.PartMut.{same_len_mid}
-use lib.Dec.{eqb}
-use lib.ListN.{length, drop}
+use lib.ListN.{length}
 use Rattle.rules.specs.Limits.{coefficient_count, most_relations, relation_length}
-use Rattle.rules.specs.Numbers.{then_read}
-use Rattle.rules.specs.Sheets.{read_side}
-use Rattle.tokens.specs.Fields.{Answers, answer-fault, answer-got, refuses, gives}
+use Rattle.tokens.specs.Fields.{read-err, read-ok, read-within, fails-on, reads}
 use Rattle.stores.specs.LentParts.{lent-long}
-use Rattle.reading.specs.Sides.{side_of, sides-begin, sides-end, sides-refused, sides-go-on}
+use Rattle.reading.specs.Sides.{sides-begin, sides-end, sides-refused, sides-go-on}
 use Rattle.reading.proofs.sides.sides_at.Goals as goal
-use Rattle.reading.proofs.sides.sides_at.Goals.{After-side_at-s, In-loop-i, Start}
+use Rattle.reading.proofs.sides.sides_at.Goals.{In-loop-i, Start}
 
 pub loop-i-init : goal.loop-i-init
 loop-i-init c = sides-begin _ _ _ _ _ _ _ _ c.requires.at_in_bounds.0
@@ -76,54 +71,22 @@ slice_bounds-side_at-start c = le-add_right _ coefficient_count
 pub slice_bounds-side_at-end : goal.slice_bounds-side_at-end
 slice_bounds-side_at-end c = rw c.loop-i.invariant.long (room (goal.at.slice_bounds-side_at-end c).In-loop-i)
 
-pub side_at-s-requires : goal.side_at-s-requires
-side_at-s-requires c =
+pub side_at-requires : goal.side_at-requires
+side_at-requires c =
     let l = c.loop-i in
-    (l.invariant.within, lent-long l.store (place (goal.at.side_at-s-requires c).In-loop-i) coefficient_count (rw l.invariant.long (room (goal.at.side_at-s-requires c).In-loop-i)))
+    (l.invariant.within, lent-long l.store (place (goal.at.side_at-requires c).In-loop-i) coefficient_count (rw l.invariant.long (room (goal.at.side_at-requires c).In-loop-i)))
 
--- The side of a turn, as it was read.
-module _ (c : After-side_at-s) where
-  abbrev turn : In-loop-i
-  turn = (goal.at.After-side_at-s c).In-loop-i
-
-  side : Answers (start turn).args.bytes.now c.side_at-s.result.refusal (c.side_at-s.new.p, c.side_at-s.result.none)
-      c.side_at-s.result.at
-      (then_read
-      (read_side (turn.loop-i.zero && eqb ((start turn).args.count - (turn.loop-i.i + 1) + (start turn).args.others) 0)
-      (drop turn.loop-i.next (start turn).args.bytes.now)) (side_of turn.loop-i.zero))
-  side = rw c.is_needed-needed.ensures at c.side_at-s.ensures
-
-pub no_sides-requires : goal.no_sides-requires
-no_sides-requires c = tt
-
-pub shape_of-store-then-s-ne0 : goal.shape_of-store-then-s-ne0
-shape_of-store-then-s-ne0 c =
-    let d = (goal.at.shape_of-store-then-s-ne0 c).After-side_at-s in
-    let l = (turn d).loop-i in
-    same_len_mid (place (turn d)) (place (turn d) + coefficient_count - place (turn d)) l.store d.side_at-s.new.p
-    d.side_at-s.auto.p ∙ l.invariant.long
-
-pub returns-then-s-ne0 : goal.returns-then-s-ne0
-returns-then-s-ne0 c =
-    let d = (goal.at.returns-then-s-ne0 c).After-side_at-s in
-    refuses c.if-s-ne0.true
-    (sides-refused _ _ _ _ _ _ _ _ _ _ _ _ (turn d).loop-i.invariant (turn d).loop-i-test.true
-    (answer-fault c.if-s-ne0.true (side d)))
-    c.no_sides.ensures
-
-pub overflow_add-i-in-loop-i : goal.overflow_add-i-in-loop-i
-overflow_add-i-in-loop-i c =
-    let t = turn (goal.at.overflow_add-i-in-loop-i c).After-side_at-s in
-    omega (arith, (start t).requires.at_in_bounds, t.loop-i-test.true)
-
-pub loop-i-smaller : goal.loop-i-smaller
-loop-i-smaller c = omega (arith, (turn (goal.at.loop-i-smaller c).After-side_at-s).loop-i-test.true)
+pub returns-in_err-s : goal.returns-in_err-s
+returns-in_err-s c =
+    fails-on _ c.in_err-s.field-0.0 c.from_residual.ensures.1
+    (sides-refused _ _ _ _ _ _ _ _ _ _ _ _ c.loop-i.invariant c.loop-i-test.true
+    (read-err (rw c.is_needed-needed.ensures at c.in_err-s.ensures)))
 
 pub loop-i-preserved : goal.loop-i-preserved
 loop-i-preserved c =
-    let d = (goal.at.loop-i-preserved c).After-side_at-s in
-    sides-go-on _ _ _ _ _ _ _ _ _ _ _ _ (turn d).loop-i.invariant (turn d).loop-i-test.true d.side_at-s.new.p
-    d.side_at-s.result.none _ (place (turn d)) (answer-got c.if-s-ne0.false (side d)) (side d).within refl (room (turn d))
+    let t = (goal.at.loop-i-preserved c).In-loop-i in
+    sides-go-on _ _ _ _ _ _ _ _ _ _ _ _ c.loop-i.invariant c.loop-i-test.true c.side_at.new.p
+    c.in_ok-s.s.none _ (place t) (read-ok (rw c.is_needed-needed.ensures at c.in_ok-s.ensures)) (read-within c.in_ok-s.ensures) refl (room t)
 
 pub shape_of-store : goal.shape_of-store
 shape_of-store c = c.loop-i.invariant.long
@@ -131,4 +94,4 @@ shape_of-store c = c.loop-i.invariant.long
 pub returns : goal.returns
 returns c =
     let inv = c.loop-i.invariant in
-    gives refl (sides-end _ _ _ _ _ _ _ _ _ _ _ _ inv (omega (arith, inv.counted, c.loop-i-test.false))) inv.within
+    reads refl (sides-end _ _ _ _ _ _ _ _ _ _ _ _ inv (omega (arith, inv.counted, c.loop-i-test.false))) inv.within

@@ -1,26 +1,17 @@
 -- `reading::sizes::unknowns_at` meets its contract: the section count, and then the number of unknowns.
 -- Assumes nothing.
-use mathlib.Core.Path.{sym}
-use Rattle.tokens.specs.Fields.{answer-fault, answer-got, refuses, answers-as, then-got, then-fault}
+use Rattle.std.proofs.Common.{sym}
+use Rattle.tokens.specs.Fields.{read-err, read-ok, read-within, fails-on, reads-as, then-got, then-fault}
 use Rattle.reading.specs.WholeSheet.{read_unknowns}
 use Rattle.reading.proofs.sizes.unknowns_at.Goals as goal
 
-pub number_between-k-requires : goal.number_between-k-requires
-number_between-k-requires c = c.requires
-
-pub no_number-requires : goal.no_number-requires
-no_number-requires c = tt
-
-pub returns-then-k-ne0 : goal.returns-then-k-ne0
+pub returns-in_err-k : goal.returns-in_err-k
 unfolding read_unknowns
-returns-then-k-ne0 c = refuses c.if-k-ne0.true
-    (then-fault _ (answer-fault c.if-k-ne0.true c.number_between-k.ensures.answers))
-    (c.no_number.ensures.0, c.no_number.ensures.2)
+returns-in_err-k c = fails-on _ c.in_err-k.field-0.0 c.from_residual.ensures.1 (then-fault _ (read-err c.in_err-k.ensures))
 
-pub number_between-requires : goal.number_between-requires
-number_between-requires c = c.number_between-k.ensures.answers.within
+pub number_between-requires-2 : goal.number_between-requires-2
+number_between-requires-2 c = read-within c.in_ok-k.ensures
 
 pub returns : goal.returns
 unfolding read_unknowns
-returns c = answers-as c.number_between.ensures.answers
-    (sym (then-got _ (answer-got c.if-k-ne0.false c.number_between-k.ensures.answers)))
+returns c = reads-as c.number_between-2.ensures (sym (then-got _ (read-ok c.in_ok-k.ensures)))

@@ -1,5 +1,5 @@
 -- `reading::terms::coefficients_at` meets its contract. The loop's invariant: `p` holds the first i coefficients and zeros
--- after them, and the others are read from `next`. The measure is their number.
+-- after them, and the others are read from `next`.
 -- Assumes nothing.
 use mathlib.Core.Path.{refl, sym, ◌∙◌}
 use Prim.Native.Nat.{◌+◌, ◌-◌, zero-le}
@@ -14,7 +14,7 @@ use mir.Facts.{to_z-of_z}
 use Rattle.lists.specs.Padded.{pad_to}
 use Rattle.rules.specs.Limits.{coefficient_count}
 use Rattle.rules.specs.Sheets.{read_coefficients}
-use Rattle.tokens.specs.Fields.{answer-fault, answer-got, refuses, gives}
+use Rattle.tokens.specs.Fields.{read-err, read-ok, read-within, fails-on, reads}
 use Rattle.reading.specs.Terms.{filled-begins, filled-ends, filled-refused, filled-goes-on, coefficients-next}
 use Rattle.reading.specs.Terms.{coefficients-none}
 use Rattle.lists.specs.Pasted.{paste-whole}
@@ -36,26 +36,18 @@ overflow_add-i c = omega arith
 pub overflow_sub-count : goal.overflow_sub-count
 overflow_sub-count c = omega arith
 
-pub coefficient_at-a-requires : goal.coefficient_at-a-requires
-coefficient_at-a-requires c = c.loop-i.invariant.1.within
+pub coefficient_at-requires : goal.coefficient_at-requires
+coefficient_at-requires c = c.loop-i.invariant.1.within
 
-pub no_part-requires : goal.no_part-requires
-no_part-requires c = tt
-
-pub shape_of-p-then-a-ne0 : goal.shape_of-p-then-a-ne0
-shape_of-p-then-a-ne0 c = c.loop-i.invariant.1.long
-    ∙ sym c.requires.p_len
-
-pub returns-then-a-ne0 : goal.returns-then-a-ne0
-returns-then-a-ne0 c =
+pub returns-in_err-a : goal.returns-in_err-a
+returns-in_err-a c =
     let a = c.args in
     let l = c.loop-i in
-    refuses c.if-a-ne0.true
+    fails-on _ c.in_err-a.field-0.0 c.from_residual.ensures.1
     (filled-refused _ _ _ _ _ _ _ _ l.invariant.1 _ (λ x. x) (λ _ r. read_coefficients a.last (a.count - (l.i + 1)) r)
     (coefficients-next a.last a.count l.i (drop l.next a.bytes.now) c.loop-i-test.true)
     _
-    (answer-fault c.if-a-ne0.true c.coefficient_at-a.ensures))
-    c.no_part.ensures
+    (read-err c.in_err-a.ensures))
 
 pub offset_bounds-p-i : goal.offset_bounds-p-i
 offset_bounds-p-i c = omega arith
@@ -63,24 +55,17 @@ offset_bounds-p-i c = omega arith
 pub bounds-p-i : goal.bounds-p-i
 bounds-p-i c = omega (arith, c.loop-i.invariant.1.long)
 
-pub overflow_add-i-in-loop-i : goal.overflow_add-i-in-loop-i
-overflow_add-i-in-loop-i c = omega arith
-
-pub loop-i-smaller : goal.loop-i-smaller
-loop-i-smaller c = omega arith
-
 pub loop-i-preserved : goal.loop-i-preserved
 loop-i-preserved c =
     let a = c.args in
     let l = c.loop-i in
-    let v = c.coefficient_at-a in
-    let fv : SFits w64 v.result.value = search rules in (
+    let fv : SFits w64 c.in_ok-a.a.value = search rules in (
       omega arith,
       rw (to_z-of_z {w = w64} fv)
           (filled-goes-on _ _ _ _ _ _ _ _ l.invariant.1 _ (λ x. x) (λ _ r. read_coefficients a.last (a.count - (l.i + 1)) r)
           (coefficients-next a.last a.count l.i (drop l.next a.bytes.now)
           c.loop-i-test.true) _ _ (omega arith)
-          (answer-got c.if-a-ne0.false v.ensures) v.ensures.within),
+          (read-ok c.in_ok-a.ensures) (read-within c.in_ok-a.ensures)),
     )
 
 pub shape_of-p : goal.shape_of-p
@@ -90,7 +75,7 @@ pub returns : goal.returns
 returns c =
     let a = c.args in
     let l = c.loop-i in
-    gives refl
+    reads refl
     (filled-ends _ _ _ _ _ _ _ _ l.invariant.1
     (coefficients-none a.last a.count l.i (drop l.next a.bytes.now) (omega arith)))
     l.invariant.1.within

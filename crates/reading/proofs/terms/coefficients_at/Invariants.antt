@@ -1,5 +1,5 @@
 -- `reading::terms::coefficients_at` meets its contract. The loop's invariant: `p` holds the first i coefficients and zeros
--- after them, and the others are read from `next`. The measure is their number.
+-- after them, and the others are read from `next`.
 -- Assumes nothing.
 use Prim.Native.Nat.{◌-◌, ◌≤◌}
 use lib.IntN.{pos}
@@ -14,6 +14,3 @@ invariant-loop-i l =
     (l.i ≤ l.count)
     × FilledTo coefficient_count (pos 0) (read_coefficients l.last l.count (drop l.at l.bytes)) l.bytes l.p l.i l.next
     (read_coefficients l.last (l.count - l.i) (drop l.next l.bytes))
-
-abbrev pub decreases-loop-i : goal.decreases-loop-i
-decreases-loop-i l = l.count - l.i

@@ -1,29 +1,9 @@
--- `reading::terms::column_at` meets its contract: a field is a number, its judgement and its separator.
+-- `reading::terms::column_at` meets its contract: the number is a field, judged by its rule.
 -- Assumes nothing.
-use mathlib.Core.Path.{refl, sym, ◌∙◌}
-use mir.Facts.{to_z-of_z}
-use Rattle.rules.specs.Sheets.{judge_column_of, always}
+use Rattle.std.proofs.Common.{rules}
+use Rattle.rules.specs.Sheets.{judge_column_of}
 use Rattle.stores.specs.Validity.{the_sizes_of}
-use Rattle.tokens.specs.Fields.{answers-field}
-use Rattle.tokens.specs.Straight.{digit-closed, closed-field}
-use borrow.Author.Rules.{rules}
-use mir.Syntax.{w64}
 use Rattle.reading.proofs.terms.column_at.Goals as goal
 
-pub separated-requires : goal.separated-requires
-separated-requires c = c.number_at-n.ensures.separator
-
-pub returns-in_default : goal.returns-in_default
-unfolding always
-returns-in_default c =
-    let n = c.number_at-n in
-    answers-field (judge_column_of (the_sizes_of c.args.z) c.args.before c.args.last c.args.s) (always 32) n.ensures
-    (search rules)
-    (simp (to_z-of_z {w = w64} c.ranges.before, to_z-of_z {w = w64} c.ranges.s) at c.judge_column.ensures) refl c.separated.ensures.answers
-
 pub returns : goal.returns
-unfolding always
-returns c =
-    closed-field (judge_column_of (the_sizes_of c.args.z) c.args.before c.args.last c.args.s) (always 32)
-    (digit-closed (sym c.digit_at.ensures ∙ c.in-Number.is)) (search rules)
-    (simp (to_z-of_z {w = w64} c.ranges.before, to_z-of_z {w = w64} c.ranges.s) at c.judge_column-2.ensures) refl c.judged.ensures
+returns c = c.field_at.ensures (judge_column_of (the_sizes_of c.args.z) c.args.before c.args.last c.args.s) (λ v fits r post. search rules)

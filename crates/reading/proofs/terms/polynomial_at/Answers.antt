@@ -2,7 +2,7 @@
 -- Assumes nothing.
 use mathlib.Core.Path.{◌≡◌, sym, ap, ◌∙◌}
 use Prim.Native.Nat.{◌≤◌}
-use borrow.Author.Rules.{sfits_of}
+use borrow.Author.Rules.{rules}
 use lib.Dec.{T}
 use lib.IntN.{ℤ, pos, nat_abs}
 use lib.ListN.{drop}
@@ -13,36 +13,30 @@ use mir.Facts.{to_z-of_z, Fits-nat_abs}
 use Rattle.rules.specs.Limits.{coefficient_count}
 use Rattle.rules.specs.Numbers.{between, got, field}
 use Rattle.rules.specs.Sheets.{always, read_coefficients}
-use Rattle.tokens.specs.Fields.{answer-fault, answer-got, refuses, answers-as, then-got, then-fault, field-judged, between-zero}
+use Rattle.tokens.specs.Fields.{read-err, read-ok, read-within, fails-on, reads-as, then-got, then-fault, field-judged, between-zero}
 use Rattle.reading.specs.Terms.{padded, read_polynomial}
 use Rattle.reading.proofs.terms.polynomial_at.Goals as goal
 use Rattle.reading.proofs.terms.polynomial_at.Goals.{After-struct_told-1}
 
-pub number_between-k-requires : goal.number_between-k-requires
-number_between-k-requires c = c.requires.at_in_bounds
-
-pub no_part-requires : goal.no_part-requires
-no_part-requires c = tt
-
-pub returns-then-k-ne0 : goal.returns-then-k-ne0
+pub returns-in_err-k : goal.returns-in_err-k
 unfolding read_polynomial
-returns-then-k-ne0 c = refuses c.if-k-ne0.true
-    (then-fault _ (answer-fault c.if-k-ne0.true c.number_between-k.ensures.answers)) c.no_part.ensures
+returns-in_err-k c = fails-on _ c.in_err-k.field-0.0 c.from_residual.ensures.1
+    (then-fault _ (read-err c.in_err-k.ensures))
 
 -- The number of coefficients, as it was read.
 module _ (c : After-struct_told-1) where
   abbrev k : ℤ
-  k = c.number_between-k.result.value
+  k = c.in_ok-k.k.value
 
   fits : SFits w64 k
-  fits = sfits_of c.struct_told-1.given.1.0.1
+  fits = search rules
 
   read : field (between (pos 1) (pos coefficient_count)) (always 32)
       (drop c.args.at
       c.args.bytes.now)
-      ≡ got k (drop c.number_between-k.result.at
+      ≡ got k (drop c.in_ok-k.k.at
       c.args.bytes.now)
-  read = answer-got c.if-k-ne0.false c.number_between-k.ensures.answers
+  read = read-ok c.in_ok-k.ensures
 
   bounds : T (non_neg k) × (1 ≤ nat_abs k) × (nat_abs k ≤ coefficient_count)
   bounds = between-zero 1 coefficient_count k (field-judged (between (pos 1) (pos coefficient_count)) (always 32) _ read)
@@ -53,7 +47,7 @@ overflow_cast-k c = rw (to_z-of_z {w = w64} (fits c)) ((bounds c).0, Fits-nat_ab
 pub coefficients_at-requires : goal.coefficients_at-requires
 coefficients_at-requires c = record {
   at_in_bounds = (
-    c.number_between-k.ensures.answers.within,
+    read-within c.in_ok-k.ensures,
     rw (to_z-of_z {w = w64} (fits (goal.at.coefficients_at-requires c).After-struct_told-1))
         (bounds (goal.at.coefficients_at-requires c).After-struct_told-1).2,
   );
@@ -67,9 +61,9 @@ pub returns : goal.returns
 unfolding read_polynomial
 returns c =
     let a = c.args in
-    answers-as c.coefficients_at.ensures
+    reads-as c.coefficients_at.ensures
     (ap (λ z. padded coefficient_count (pos 0)
     (read_coefficients a.separator (nat_abs z)
-    (drop c.number_between-k.result.at a.bytes.now)))
+    (drop c.in_ok-k.k.at a.bytes.now)))
     (to_z-of_z {w = w64} (fits (goal.at.returns c).After-struct_told-1))
     ∙ sym (then-got _ (read (goal.at.returns c).After-struct_told-1)))

@@ -2,7 +2,7 @@
 -- Assumes nothing.
 use mathlib.Core.Path.{◌≡◌, subst}
 use mathlib.Core.List.{List}
-use Prim.Native.Nat.{ℕ, ◌+◌, ◌*◌, ◌-◌, ◌≤◌, ◌<◌, zero-le}
+use Prim.Native.Nat.{ℕ, ◌+◌, ◌*◌, ◌-◌, ◌≤◌, ◌<◌}
 use native.Mathlib.Nat.{mul-le-mul, le_refl}
 use native.Mathlib.Omega.{arith}
 use lib.IntN.{ℤ}
@@ -65,10 +65,10 @@ module _ (d : In-loop-k) where
   part_room = omega (arith, term.inside, s.requires.t.1)
 
   kept : Kept s.args.at s.args.tests s.args.sums.now sums
-  kept = d.loop-k.invariant.1
+  kept = d.loop-k.invariant.0
 
   so_far : Known (left_sum s.args.n row values s.args.base s.args.m shape k) s.args.tests s.args.at sums formed
-  so_far = rw (to_z-of_z s.ranges.n) at d.loop-k.invariant.2
+  so_far = rw (to_z-of_z s.ranges.n) at d.loop-k.invariant.1
 
   numbers : NumbersThere values (s.args.base + number) s.args.m formed
   numbers j l =
@@ -87,8 +87,10 @@ bounds-shape-60 c = omega (arith, c.requires.t_2.1)
 pub loop-k-init : goal.loop-k-init
 unfolding term_sum
 loop-k-init c =
-    let a = c.args in
-    (zero-le, kept-none a.at a.tests a.sums.now, known-zeros a.tests a.at a.sums.now c.requires.zeros_at.zeros)
+    let a = c.args in (
+      kept-none a.at a.tests a.sums.now,
+      known-zeros a.tests a.at a.sums.now c.requires.zeros_at.zeros,
+    )
 
 pub overflow_mul-place : goal.overflow_mul-place
 overflow_mul-place c = omega (arith, below c, few c)
@@ -148,19 +150,12 @@ with_term-formed-requires c =
       sums_near = near d;
     }
 
-pub overflow_add-k : goal.overflow_add-k
-overflow_add-k c = let d = (goal.at.overflow_add-k c).In-loop-k in omega (arith, below d, few d)
-
-pub loop-k-smaller : goal.loop-k-smaller
-loop-k-smaller c = let d = (goal.at.loop-k-smaller c).In-loop-k in omega (arith, below d)
-
 pub loop-k-preserved : goal.loop-k-preserved
 unfolding term_polynomial
 loop-k-preserved c =
     let d = (goal.at.loop-k-preserved c).In-loop-k in
     let a = (s d).args in
     let added = rw (to_z-of_z {w = w64} (s d).ranges.n) at c.with_term-formed.ensures in (
-      omega (arith, below d),
       kept-both a.at a.tests a.tests (formed d) a.sums.now (sums d) c.with_term-formed.new.sums (omega arith) (so_far d).few (kept d)
           added.kept,
       rw (to_z-of_z {w = w64} (s d).ranges.n)
@@ -170,14 +165,14 @@ loop-k-preserved c =
     )
 
 pub shape_of-sums : goal.shape_of-sums
-shape_of-sums c = c.loop-k.invariant.1.same_length
+shape_of-sums c = c.loop-k.invariant.0.same_length
 
 pub returns : goal.returns
 returns c =
     let a = c.args in
-    let all : c.loop-k.k ≡ get_or a.shape.now count_place 0 = omega (arith, c.loop-k.invariant.0, c.loop-k-test.false) in (
-      c.loop-k.invariant.1,
+    let all : c.loop-k.k ≡ get_or a.shape.now count_place 0 = omega (arith, c.loop-k.auto.k-end, c.loop-k-test.false) in (
+      c.loop-k.invariant.0,
       subst (λ k. Known (left_sum a.n a.row.now a.values.now a.base a.m a.shape.now k) a.tests a.at
           c.loop-k.sums
-          c.loop-k.formed) all (rw (to_z-of_z c.ranges.n) at c.loop-k.invariant.2),
+          c.loop-k.formed) all (rw (to_z-of_z c.ranges.n) at c.loop-k.invariant.1),
     )

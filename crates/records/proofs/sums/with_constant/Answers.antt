@@ -4,7 +4,7 @@ use mathlib.Core.Path.{◌≡◌, ◌∙◌, subst}
 use mathlib.Core.List.{List}
 use mathlib.Core.Logic.{inr}
 use mathlib.Core.Option.{some}
-use Prim.Native.Nat.{ℕ, ◌+◌, ◌*◌, ◌≤◌, ◌<◌, zero-le}
+use Prim.Native.Nat.{ℕ, ◌+◌, ◌*◌, ◌≤◌, ◌<◌}
 use native.Mathlib.Omega.{arith}
 use borrow.Author.Rules.{sfits_of}
 use lib.Dec.{lit<}
@@ -53,7 +53,7 @@ module _ (d : In-loop-j) where
   below = d.loop-j-test.true
 
   so_far : AddedAnywhere p values s.args.from s.args.m s.args.at j s.args.sums.now j sums
-  so_far = d.loop-j.invariant.1
+  so_far = d.loop-j.invariant
 
   room : place < length s.args.sums.now
   room = omega (arith, s.requires.sums_near.room, below)
@@ -91,7 +91,7 @@ bounds-p-0 c = omega (arith, c.requires.t.1)
 pub loop-j-init : goal.loop-j-init
 loop-j-init c =
     let a = c.args in
-    (zero-le, λ n. added_none n a.p.now a.values.now a.from a.m a.at a.sums.now)
+    λ n. added_none n a.p.now a.values.now a.from a.m a.at a.sums.now
 
 pub overflow_add-place : goal.overflow_add-place
 overflow_add-place c = omega (arith, room c)
@@ -128,12 +128,6 @@ offset_bounds-sums-place-in-loop-j c = let d = (goal.at.offset_bounds-sums-place
 pub bounds-sums-place : goal.bounds-sums-place
 bounds-sums-place c = place-room c.before.before.before
 
-pub overflow_add-j : goal.overflow_add-j
-overflow_add-j c = let d = (goal.at.overflow_add-j c).In-loop-j in omega (arith, below d)
-
-pub loop-j-smaller : goal.loop-j-smaller
-loop-j-smaller c = let d = (goal.at.loop-j-smaller c).In-loop-j in omega (arith, below d)
-
 -- The sum that is written, as the machine reads it back.
 plus-is : (g : After-plus)
     → let d = g.before.before.before in
@@ -145,18 +139,16 @@ plus-is g =
 
 pub loop-j-preserved : goal.loop-j-preserved
 loop-j-preserved c =
-    let d = (goal.at.loop-j-preserved c).In-loop-j in (
-      omega (arith, below d),
-      λ n. added_next n (p d) (values d) (s d).args.from (s d).args.m (s d).args.at (s d).args.sums.now (j d) (sums d) (factor d)
-          (to_z w64 (of_z w64 c.plus.result)) (room d) (so_far d n) (value-is d (n +ℤ pos (j d))) (plus-is c),
-    )
+    let d = (goal.at.loop-j-preserved c).In-loop-j in
+    λ n. added_next n (p d) (values d) (s d).args.from (s d).args.m (s d).args.at (s d).args.sums.now (j d) (sums d) (factor d)
+    (to_z w64 (of_z w64 c.plus.result)) (room d) (so_far d n) (value-is d (n +ℤ pos (j d))) (plus-is c)
 
 pub shape_of-sums : goal.shape_of-sums
-shape_of-sums c = (c.loop-j.invariant.1 (pos 0)).kept.same_length
+shape_of-sums c = (c.loop-j.invariant (pos 0)).kept.same_length
 
 pub returns : goal.returns
 returns c =
     let a = c.args in
-    let all : c.loop-j.j ≡ a.count = omega (arith, c.loop-j.invariant.0, c.loop-j-test.false) in
+    let all : c.loop-j.j ≡ a.count = omega (arith, c.loop-j.auto.j-end, c.loop-j-test.false) in
     subst (λ k. AddedAnywhere a.p.now a.values.now a.from a.m a.at k a.sums.now k c.loop-j.sums) all
-    c.loop-j.invariant.1
+    c.loop-j.invariant

@@ -4,7 +4,7 @@ use mathlib.Core.Path.{◌≡◌, sym, ◌∙◌, ap, subst}
 use mathlib.Core.List.{List}
 use mathlib.Core.Logic.{inr}
 use mathlib.Core.Option.{none, some}
-use Prim.Native.Nat.{ℕ, ◌+◌, ◌*◌, ◌≤◌, ◌<◌, zero-le}
+use Prim.Native.Nat.{ℕ, ◌+◌, ◌*◌, ◌≤◌, ◌<◌}
 use native.Mathlib.Omega.{arith}
 use borrow.Author.Rules.{sfits_of}
 use lib.Dec.{lit<}
@@ -16,12 +16,12 @@ use mir.Facts.{to_z-of_z, to_z_pos}
 use Rattle.algebra.specs.Integers.{nat_abs-+ℤ}
 use Rattle.integers.specs.Ranges.{sfits-size}
 use Rattle.evaluation.specs.Evaluated.{farthest, value_limit, formed_of, horner, horner-size}
-use Rattle.evaluation.specs.declared.Formed.TheVariants.{Value, Past}
+use Rattle.std.proofs.Common.{Some, None}
 use Rattle.records.specs.Records.{value_bound}
 use Rattle.records.specs.RecordSums.{block_room, values-small}
 use Rattle.records.specs.Successive.{Added, added_none, added_next, added-stop}
 use Rattle.records.proofs.sums.with_term.Goals as goal
-use Rattle.records.proofs.sums.with_term.Goals.{After-evaluate, After-plus, In-Value, In-loop-j, Start}
+use Rattle.records.proofs.sums.with_term.Goals.{After-evaluate, After-plus, In-Some, In-loop-j, Start}
 
 -- One coefficient.
 pub with_constant-requires : goal.with_constant-requires
@@ -68,7 +68,7 @@ module _ (d : In-loop-j) where
   below = d.loop-j-test.true
 
   so_far : Added s.args.n p values s.args.from s.args.m s.args.at j s.args.sums.now j sums
-  so_far = rw (to_z-of_z s.ranges.n) at d.loop-j.invariant.1
+  so_far = rw (to_z-of_z s.ranges.n) at d.loop-j.invariant
 
   room : place < length s.args.sums.now
   room = omega (arith, s.requires.sums_near.room, below)
@@ -103,7 +103,7 @@ module _ (d : In-loop-j) where
 pub loop-j-init : goal.loop-j-init
 loop-j-init c =
     let a = c.args in
-    (zero-le, added_none _ a.p.now a.values.now a.from a.m a.at a.sums.now)
+    added_none _ a.p.now a.values.now a.from a.m a.at a.sums.now
 
 pub overflow_cast-j : goal.overflow_cast-j
 overflow_cast-j c = omega (arith, below c, (s c).requires.t.1)
@@ -128,30 +128,28 @@ pub shape_of-sums-in_default : goal.shape_of-sums-in_default
 shape_of-sums-in_default c = (so_far (goal.at.shape_of-sums-in_default c).In-loop-j).kept.same_length
 
 pub returns-in_default : goal.returns-in_default
-unfolding formed_of
 returns-in_default c =
     let e = (goal.at.returns-in_default c).After-evaluate in
     let d = (goal.at.After-evaluate e).In-loop-j in
-    let told : e.evaluate.result ≡ Past = c.in_default.is in
+    let told : e.evaluate.result ≡ None = c.in_default.is in
     let none-there : horner (index d) (p d) ≡ none = sym (sym (ap formed_of told) ∙ value_of e) in
     added-stop (s d).args.n (p d) (values d) (s d).args.from (s d).args.m (s d).args.at (s d).args.sums.now (j d)
     (s d).args.count (sums d) (omega (arith, below d)) (λ l. none-there) (so_far d)
 
 -- The value that was found.
-module _ (f : In-Value) where
+module _ (f : In-Some) where
   abbrev e : After-evaluate
-  e = (goal.at.In-Value f).After-evaluate
+  e = (goal.at.In-Some f).After-evaluate
 
   abbrev d : In-loop-j
   d = (goal.at.After-evaluate e).In-loop-j
 
   abbrev value : ℤ
-  value = f.in-Value.value
+  value = f.in-Some.value
 
   value-is : horner (index d) (p d) ≡ some value
-  unfolding formed_of
   value-is =
-      let known : e.evaluate.result ≡ Value value = f.in-Value.is in
+      let known : e.evaluate.result ≡ Some value = f.in-Some.is in
       sym (sym (ap formed_of known) ∙ value_of e)
 
   value-size : nat_abs value ≤ value_limit
@@ -170,36 +168,30 @@ pub slice_copy_out-plus : goal.slice_copy_out-plus
 slice_copy_out-plus c = place-room (d c)
 
 pub overflow_mul-j : goal.overflow_mul-j
-overflow_mul-j c = omega (arith, number-room (d (goal.at.overflow_mul-j c).In-Value))
+overflow_mul-j c = omega (arith, number-room (d (goal.at.overflow_mul-j c).In-Some))
 
 pub overflow_add-from : goal.overflow_add-from
-overflow_add-from c = omega (arith, number-room (d (goal.at.overflow_add-from c).In-Value))
+overflow_add-from c = omega (arith, number-room (d (goal.at.overflow_add-from c).In-Some))
 
 pub offset_bounds-values-from : goal.offset_bounds-values-from
-offset_bounds-values-from c = omega (arith, number-room (d (goal.at.offset_bounds-values-from c).In-Value))
+offset_bounds-values-from c = omega (arith, number-room (d (goal.at.offset_bounds-values-from c).In-Some))
 
 pub bounds-values-from : goal.bounds-values-from
-bounds-values-from c = number-room (d (goal.at.bounds-values-from c).In-Value)
+bounds-values-from c = number-room (d (goal.at.bounds-values-from c).In-Some)
 
 pub plus-requires : goal.plus-requires
 plus-requires c =
-    let f = (goal.at.plus-requires c).In-Value in (
+    let f = (goal.at.plus-requires c).In-Some in (
       rw (to_z-of_z {w = w64} (sum_fits (d f))) (sum_near (d f)),
       rw (to_z-of_z {w = w64} (value-fits f)) (value-size f),
       rw (to_z-of_z {w = w64} (number_fits (d f))) (number_size (d f)),
     )
 
 pub offset_bounds-sums-place-in-loop-j : goal.offset_bounds-sums-place-in-loop-j
-offset_bounds-sums-place-in-loop-j c = let e = d (goal.at.offset_bounds-sums-place-in-loop-j c).In-Value in omega (arith, room e)
+offset_bounds-sums-place-in-loop-j c = let e = d (goal.at.offset_bounds-sums-place-in-loop-j c).In-Some in omega (arith, room e)
 
 pub bounds-sums-place : goal.bounds-sums-place
-bounds-sums-place c = place-room (d (goal.at.bounds-sums-place c).In-Value)
-
-pub overflow_add-j : goal.overflow_add-j
-overflow_add-j c = let e = d (goal.at.overflow_add-j c).In-Value in omega (arith, below e)
-
-pub loop-j-smaller : goal.loop-j-smaller
-loop-j-smaller c = let e = d (goal.at.loop-j-smaller c).In-Value in omega (arith, below e)
+bounds-sums-place c = place-room (d (goal.at.bounds-sums-place c).In-Some)
 
 -- The sum that is written, as the machine reads it back.
 plus-is : (g : After-plus)
@@ -212,21 +204,19 @@ plus-is g =
 
 pub loop-j-preserved : goal.loop-j-preserved
 loop-j-preserved c =
-    let f = (goal.at.loop-j-preserved c).In-Value in
+    let f = (goal.at.loop-j-preserved c).In-Some in
     let e = d f in
-    let a = (s e).args in (
-      omega (arith, below e),
-      rw (to_z-of_z {w = w64} (s e).ranges.n)
-          (added_next a.n (p e) (values e) a.from a.m a.at a.sums.now (j e) (sums e) (value f)
-          (to_z w64 (of_z w64 c.plus.result)) (room e) (so_far e) (value-is f) (plus-is c)),
-    )
+    let a = (s e).args in
+    rw (to_z-of_z {w = w64} (s e).ranges.n)
+    (added_next a.n (p e) (values e) a.from a.m a.at a.sums.now (j e) (sums e) (value f)
+    (to_z w64 (of_z w64 c.plus.result)) (room e) (so_far e) (value-is f) (plus-is c))
 
 pub shape_of-sums : goal.shape_of-sums
-shape_of-sums c = c.loop-j.invariant.1.kept.same_length
+shape_of-sums c = c.loop-j.invariant.kept.same_length
 
 pub returns : goal.returns
 returns c =
     let a = c.args in
-    let all : c.loop-j.j ≡ a.count = omega (arith, c.loop-j.invariant.0, c.loop-j-test.false) in
+    let all : c.loop-j.j ≡ a.count = omega (arith, c.loop-j.auto.j-end, c.loop-j-test.false) in
     subst (λ k. Added a.n a.p.now a.values.now a.from a.m a.at k a.sums.now k c.loop-j.sums) all
-    (rw (to_z-of_z c.ranges.n) at c.loop-j.invariant.1)
+    (rw (to_z-of_z c.ranges.n) at c.loop-j.invariant)

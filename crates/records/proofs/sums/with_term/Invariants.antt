@@ -1,11 +1,7 @@
 -- `records::sums::with_term` meets its contract. The invariant: the products are added at the first j of the n.
 -- Assumes nothing.
-use Prim.Native.Nat.{◌-◌, ◌≤◌}
 use Rattle.records.specs.Successive.{Added}
 use Rattle.records.proofs.sums.with_term.Given as goal
 
 abbrev pub invariant-loop-j : goal.invariant-loop-j
-invariant-loop-j l = (l.j ≤ l.count) × Added l.n l.p l.values l.from l.m l.at l.j l.initial.sums l.j l.sums
-
-abbrev pub decreases-loop-j : goal.decreases-loop-j
-decreases-loop-j l = l.count - l.j
+invariant-loop-j l = Added l.n l.p l.values l.from l.m l.at l.j l.initial.sums l.j l.sums

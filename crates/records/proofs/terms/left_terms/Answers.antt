@@ -1,7 +1,7 @@
 -- `records::terms::left_terms` meets its contract. The invariant: the terms of the first b blocks are listed.
 -- Assumes nothing.
 use mathlib.Core.Path.{◌≡◌, sym, ◌∙◌, subst}
-use Prim.Native.Nat.{ℕ, suc, ◌+◌, ◌*◌, ◌-◌, ◌≤◌, zero-le}
+use Prim.Native.Nat.{ℕ, suc, ◌+◌, ◌*◌, ◌-◌, ◌≤◌}
 use native.Mathlib.Nat.{mul-le-mul, suc-mul}
 use native.Mathlib.Omega.{arith}
 use Rattle.records.specs.Terms.{BlocksListed, blocks-none, blocks-listed}
@@ -23,7 +23,7 @@ module _ (d : In-loop-b) where
   below = d.loop-b-test.true
 
   so_far : BlocksListed m s.args.span s.args.row.now d.loop-b.shape d.loop-b.count b
-  so_far = d.loop-b.invariant.1
+  so_far = d.loop-b.invariant
 
   -- Terms and numbers are at most those of five blocks of four columns.
   terms-few : d.loop-b.count + m ≤ 20
@@ -40,7 +40,7 @@ module _ (d : In-loop-b) where
 
 pub loop-b-init : goal.loop-b-init
 loop-b-init c =
-    (zero-le, blocks-none c.args.m c.args.span c.args.row.now c.args.shape.now c.requires.3)
+    blocks-none c.args.m c.args.span c.args.row.now c.args.shape.now c.requires.3
 
 pub overflow_mul-b : goal.overflow_mul-b
 overflow_mul-b c = let d = (goal.at.overflow_mul-b c).In-loop-b in omega (arith, below d, (s d).requires.2)
@@ -56,25 +56,26 @@ block_terms-count-requires c =
       shape_len = ((so_far d).long, terms-few d);
     }
 
-pub overflow_add-b : goal.overflow_add-b
-overflow_add-b c = let d = (goal.at.overflow_add-b c).In-loop-b in omega (arith, below d, (s d).requires.2)
-
-pub loop-b-smaller : goal.loop-b-smaller
-loop-b-smaller c = let d = (goal.at.loop-b-smaller c).In-loop-b in omega (arith, below d)
-
 pub loop-b-preserved : goal.loop-b-preserved
 loop-b-preserved e =
-    let d = (goal.at.loop-b-preserved e).In-loop-b in (
-      omega (arith, below d),
-      blocks-listed (m d) (s d).args.span (s d).args.row.now d.loop-b.shape d.loop-b.count (b d)
-          e.block_terms-count.new.shape e.block_terms-count.result (below d) (s d).requires.1 (so_far d) e.block_terms-count.ensures,
-    )
+    let d = (goal.at.loop-b-preserved e).In-loop-b in
+    blocks-listed (m d) (s d).args.span (s d).args.row.now d.loop-b.shape d.loop-b.count (b d)
+    e.block_terms-count.new.shape e.block_terms-count.result (below d) (s d).requires.1 (so_far d) e.block_terms-count.ensures
 
 pub shape_of-shape : goal.shape_of-shape
-shape_of-shape c = c.loop-b.invariant.1.long ∙ sym c.requires.3
+shape_of-shape c = c.loop-b.invariant.long ∙ sym c.requires.3
 
 pub returns : goal.returns
 returns e =
     let a = e.args in
-    let all : e.loop-b.b ≡ a.span + 1 = omega (arith, e.loop-b.invariant.0, e.loop-b-test.false) in
-    subst (BlocksListed a.m a.span a.row.now e.loop-b.shape e.loop-b.count) all e.loop-b.invariant.1
+    let all : e.loop-b.b ≡ a.span + 1 = omega (arith, e.loop-b.auto.b-end, e.loop-b-test.false) in
+    subst (BlocksListed a.m a.span a.row.now e.loop-b.shape e.loop-b.count) all e.loop-b.invariant
+
+-- After the last block.
+pub returns-2 : goal.returns-2
+returns-2 e =
+    let d = (goal.at.returns-2 e).In-loop-b in
+    let last : b d ≡ (s d).args.span = omega arith in
+    subst (λ k. BlocksListed (m d) (s d).args.span (s d).args.row.now e.block_terms-count.new.shape e.block_terms-count.result (k + 1)) last
+    (blocks-listed (m d) (s d).args.span (s d).args.row.now d.loop-b.shape d.loop-b.count (b d)
+    e.block_terms-count.new.shape e.block_terms-count.result (below d) (s d).requires.1 (so_far d) e.block_terms-count.ensures)

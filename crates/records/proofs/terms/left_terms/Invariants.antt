@@ -1,11 +1,7 @@
 -- `records::terms::left_terms` meets its contract. The invariant: the terms of the first b blocks are listed.
 -- Assumes nothing.
-use Prim.Native.Nat.{◌+◌, ◌-◌, ◌≤◌}
 use Rattle.records.specs.Terms.{BlocksListed}
 use Rattle.records.proofs.terms.left_terms.Given as goal
 
 abbrev pub invariant-loop-b : goal.invariant-loop-b
-invariant-loop-b l = (l.b ≤ l.span + 1) × BlocksListed l.m l.span l.row l.shape l.count l.b
-
-abbrev pub decreases-loop-b : goal.decreases-loop-b
-decreases-loop-b l = l.span + 1 - l.b
+invariant-loop-b l = BlocksListed l.m l.span l.row l.shape l.count l.b

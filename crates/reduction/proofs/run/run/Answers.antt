@@ -1,16 +1,15 @@
--- `reduction::run::run` meets its contract: a run without a refusal leaves the stores as its steps do; what a refused one has
--- used is cleared.
+-- `reduction::run::run` meets its contract: a run without a refusal leaves the stores as its steps do; after a refused one both
+-- are cleared.
 -- Assumes nothing.
-use mathlib.Core.Path.{◌∙◌, ap}
+use mathlib.Core.Path.{refl}
 use native.Mathlib.Omega.{arith}
-use Rattle.rules.specs.Stores.{row_need}
-use Rattle.reduction.specs.Progress.{answer_of}
+use Rattle.refusals.specs.Refusals.{number-nonzero}
 use Rattle.reduction.specs.Ran.{ran-held, ran-cleared}
 use Rattle.reduction.proofs.run.run.Goals as goal
 
-pub returns-then-refusal-eq0 : goal.returns-then-refusal-eq0
-returns-then-refusal-eq0 c =
-    let ran = ran-held c.requires.equations_le_most_equations.1.long c.steps-o.ensures c.if-refusal-eq0.true in
+pub returns-in-Ok : goal.returns-in-Ok
+returns-in-Ok c =
+    let ran = ran-held c.requires.equations_le_most_equations.1.long c.in-Ok.ensures.reached refl in
     record {
       value = ran.answer;
       rows_after = ran.rows-after;
@@ -19,17 +18,19 @@ returns-then-refusal-eq0 c =
     }
 
 pub clear-requires : goal.clear-requires
-unfolding row_need
 clear-requires c =
-    omega (arith, c.requires.equations_le_most_equations.1.long, c.steps-o.ensures.rows-kept.same_length)
+    let needs = c.requires.equations_le_most_equations in
+    let came = c.in-Err.ensures.reached in (
+      needs.0,
+      omega (arith, needs.1.long, came.rows-kept.same_length),
+      omega (arith, came.ready.listing.within.long),
+    )
 
-pub returns : goal.returns
-unfolding row_need
-returns c =
-    let answer = c.answer.ensures ∙ ap (answer_of c.steps-o.result.refusal) c.start.ensures in
-    let refused = c.if-refusal-eq0.false in
-    let ran = ran-cleared c.requires.equations_le_most_equations.0 c.requires.equations_le_most_equations.1.long c.steps-o.ensures refused c.clear.ensures c.clear-2.ensures
-    answer in
+pub returns-in-Err : goal.returns-in-Err
+returns-in-Err c =
+    let needs = c.requires.equations_le_most_equations in
+    let ran = ran-cleared needs.0 needs.1.long c.in-Err.ensures.reached (number-nonzero c.in-Err.refusal) c.clear.ensures.rows_after
+    c.clear.ensures.relations_after in
     record {
       value = ran.answer;
       rows_after = ran.rows-after;

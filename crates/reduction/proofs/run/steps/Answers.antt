@@ -1,76 +1,75 @@
--- `reduction::run::steps` meets its contract. The loop's invariant: at most `left` steps more from the progress that is reached give what
--- the whole run gives.
+-- `reduction::run::steps` meets its contract.
 -- Assumes nothing.
+use mathlib.Core.Path.{◌≡◌, refl, sym, ◌∙◌}
 use mathlib.Core.Logic.{inl, inr}
-use Prim.Native.Nat.{◌<◌}
+use Prim.Native.Nat.{◌<◌, ◌-◌, ◌+◌}
 use native.Mathlib.Omega.{arith}
+use borrow.Author.Tests.{leb-true, leb-false}
 use Rattle.rules.specs.Limits.{column_count}
 use Rattle.sides.specs.Lent.{side_of}
+use Rattle.std.proofs.lemmas.Result.{err_from_is_err_and}
+use Rattle.refusals.specs.Refusals.{number-nonzero}
 use Rattle.reduction.specs.Progress.{state_of}
 use Rattle.reduction.specs.Unused.{unused-after}
-use Rattle.reduction.specs.RunLaws.{Stopped, run-starts, run-goes, run-stops}
+use Rattle.reduction.specs.RunLaws.{run-starts, run-goes, run-stops, run-refused}
 use Rattle.reduction.proofs.run.steps.Goals as goal
-use Rattle.reduction.proofs.run.steps.Goals.{At-loop-left, Left-loop-left, Then-p, then-loop-left-test+then-refusal-eq0+else-p, then-loop-left-test+else-refusal-eq0, else-loop-left-test}
+use Rattle.reduction.proofs.run.steps.Goals.{Else-is_done}
 
-pub enough-left-requires : goal.enough-left-requires
-enough-left-requires c = c.requires.equations_le_most_equations.0
-
-pub loop-left-init : goal.loop-left-init
+pub loop-init : goal.loop-init
 unfolding state_of
-loop-left-init c =
+loop-init c =
     let args = c.args in
+    let needs = c.requires.equations_le_most_equations in
     rw c.start-p.ensures (
-      run-starts (side_of args.side) args.equations args.count c.enough-left.result args.rows.now args.relations.now
-          c.requires.equations_le_most_equations.0 c.requires.equations_le_most_equations.1 c.requires.equations_le_most_equations.2 c.enough-left.ensures,
-      λ e. c.requires.span_le_most_span.1,
+      run-starts (side_of args.side) args.equations args.count (c.enough-most.result - 0) args.rows.now args.relations.now
+          needs.0 needs.1 needs.2 (omega (arith, c.enough-most.ensures)),
+      c.requires.span_le_most_span.1,
     )
 
--- what the tests of a turn say
-module _ (c : Then-p) where
-  abbrev head : At-loop-left
-  head = (goal.at.Then-p c).At-loop-left
+-- a step is to be made
+module _ (c : Else-is_done) where
+  one-left : c.loop.p.settled < c.loop.p.rows
+  one-left = leb-false _ _ (sym c.is_done.ensures ∙ c.if-is_done.false)
 
-  one_left : head.loop-left.p.settled < head.loop-left.p.rows
-  one_left = c.if-p.true
+  one_more : c.enough-most.result - c.loop.counter ≡ c.enough-most.result - (c.loop.counter + 1) + 1
+  one_more = omega (arith, c.loop-test.true)
 
-pub step-o-requires : goal.step-o-requires
-step-o-requires c =
-    let turn = (goal.at.step-o-requires c).Then-p in
-    let at = (head turn).loop-left.invariant in record {
-      ready = (at.0.reached.ready, one_left turn, omega (arith, at.0.reached.few-shifts));
-      span_le_most_span = ((head turn).requires.span_le_most_span.0, at.1 (turn.if-refusal-eq0.true));
+pub step-requires : goal.step-requires
+step-requires c =
+    let turn = (goal.at.step-requires c).Else-is_done in
+    let at = c.loop.invariant in record {
+      ready = (at.0.reached.ready, one-left turn, omega (arith, at.0.reached.few-shifts));
+      span_le_most_span = (c.requires.span_le_most_span.0, at.1);
     }
 
-pub overflow_sub-left : goal.overflow_sub-left
-overflow_sub-left c = omega (arith, c.loop-left-test.true)
+pub returns-then-is_done : goal.returns-then-is_done
+returns-then-is_done c =
+    record {
+      left = c.loop.p;
+      reached = run-stops c.loop.invariant.0 (inr (inr (leb-true _ _ (sym c.is_done.ensures ∙ c.if-is_done.true))));
+    }
 
-pub loop-left-smaller : goal.loop-left-smaller
-loop-left-smaller c = omega (arith, c.loop-left-test.true)
+pub returns-in_err-p : goal.returns-in_err-p
+returns-in_err-p c =
+    let turn = (goal.at.returns-in_err-p c).Else-is_done in
+    let exit = err_from_is_err_and c.from_residual.result c.from_residual.ensures.1 in
+    let came = c.in_err-p.ensures in
+    rw (exit.1, exit.2) record {
+      left = came.left;
+      reached = run-refused (run-goes c.loop.invariant.0 (one_more turn) refl (one-left turn) came.reached refl)
+          (number-nonzero c.in_err-p.field-0.0);
+    }
 
-pub loop-left-preserved : goal.loop-left-preserved
-loop-left-preserved c =
-    let turn = (goal.at.loop-left-preserved c).Then-p in
-    let at = (head turn).loop-left.invariant in
-    let args = (head turn).args in
-    let fine = turn.if-refusal-eq0.true in (
-      run-goes at.0 turn.loop-left-test.true fine (one_left turn) c.step-o.ensures.reached c.step-o.ensures.done_value,
-      λ e. unused-after column_count args.span at.0.reached.ready (side_of args.side) (one_left turn) c.step-o.ensures.reached c.step-o.ensures.done_value e (at.1 fine),
+pub loop-preserved : goal.loop-preserved
+loop-preserved c =
+    let turn = (goal.at.loop-preserved c).Else-is_done in
+    let at = c.loop.invariant in
+    let came = c.in_ok-p.ensures in (
+      run-goes at.0 (one_more turn) refl (one-left turn) came.reached refl,
+      unused-after column_count c.args.span at.0.reached.ready (side_of c.args.side) (one-left turn) came.reached refl refl at.1,
     )
 
--- what the loop's end says
-stopped : (c : Left-loop-left)
-    → Stopped c.loop-left.refusal c.loop-left.p c.loop-left.left
-stopped c = elim c.loop-left-test.branch [
-  | then-loop-left-test+then-refusal-eq0+else-p w ↦ inr (inr w.if-p.false)
-  | then-loop-left-test+else-refusal-eq0 w ↦ inr (inl w.if-refusal-eq0.false)
-  | else-loop-left-test w ↦ inl (omega arith)
-]
-
-pub shape_of-rows : goal.shape_of-rows
-shape_of-rows c = c.loop-left.invariant.0.reached.rows-kept.same_length
-
-pub shape_of-relations : goal.shape_of-relations
-shape_of-relations c = c.loop-left.invariant.0.reached.relations-kept.same_length
-
 pub returns : goal.returns
-returns c = run-stops c.loop-left.invariant.0 (stopped (goal.at.returns c).Left-loop-left)
+returns c =
+    let none : c.enough-most.result - c.loop.counter ≡ 0 = omega (arith, c.loop-test.false) in
+    record { left = c.loop.p; reached = run-stops c.loop.invariant.0 (inl none) }

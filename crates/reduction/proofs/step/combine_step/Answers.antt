@@ -8,7 +8,7 @@ use native.Mathlib.Nat.{le_of_eq}
 use native.Mathlib.Omega.{arith}
 use lib.Dec.{T}
 use lib.IntN.{ℤ}
-use lib.ListN.{length, get_or, length-append, length-replicate}
+use lib.ListN.{length, get_or}
 use Rattle.algebra.specs.Polynomials.{is_zero_of}
 use Rattle.algebra.specs.Roots.{roots}
 use Rattle.rules.specs.Limits.{column_count, row_length, small}
@@ -16,34 +16,31 @@ use Rattle.rules.specs.Rows.{entry, combine, primitive, width}
 use Rattle.lists.specs.Tests.{every}
 use Rattle.rules.specs.Stores.{row_of}
 use Rattle.rules.specs.Elimination.{Side, Limited, limit_degrees, consistent, Multipliers, multipliers_at, listing, combine_step_of, roots_with_of}
-use Rattle.roots.specs.RootSearch.{listed, held_of, roots_few}
+use Rattle.roots.specs.RootSearch.{roots_few}
 use Rattle.multiplicities.specs.declared.RootsWith.{RootsWith}
-use Rattle.multiplicities.specs.Counts.{listed_with, roots_alone, roots_held, found-alone}
+use Rattle.multiplicities.specs.Counts.{listed_with, roots_held, found-held, found-count, found-long}
 use Rattle.combinations.specs.Undivided.{RowsFit}
 use Rattle.working_rows.specs.Found.{Columns-at}
 use Rattle.working_rows.specs.declared.WorkingRow.{WorkingRow}
 use Rattle.working_rows.specs.Working.{numbers_held, Full, loaded, full-loaded, numbers-loaded}
-use Rattle.working_rows.specs.Worked.{refusal_of, numbers_of, numbers-worked}
+use Rattle.working_rows.specs.Worked.{Shown}
 use Rattle.reduction.specs.declared.step.Progress.{Progress}
 use Rattle.sides.specs.Lent.{side_of}
 use Rattle.reduction.specs.Progress.{Ready, state_of, answer_of, listed_progress}
 use Rattle.sides.specs.Relations.{Relisted}
 use Rattle.reduction.specs.MultiplierSizes.{Sixteen, multipliers-fit, roots-small}
-use Rattle.reduction.specs.NewRows.{Storable, saved, row_room, combined-storable, full-worked}
+use Rattle.reduction.specs.NewRows.{Storable, row_room, combined-storable, full-limited, saved-limited}
 use Rattle.reduction.specs.StoreExchange.{numbers_at, length-numbers_at, small-numbers_at, length-entry, small-entry}
 use Rattle.reduction.specs.StepLaws.{multipliers_of, multipliers_in, new_row, multipliers-in, combine-refused, combine-reached}
 use Rattle.reduction.specs.StepLaws.{refused-reached, reached-same}
 use Rattle.reduction.proofs.step.combine_step.Goals as goal
-use Rattle.reduction.proofs.step.combine_step.Goals.{After-list_roots, After-put_multipliers_at-found, After-row_at-pivot, After-row_at-target, Start}
+use Rattle.reduction.proofs.step.combine_step.Goals.{After-list_roots, After-combined-worked, After-put_multipliers_at-found, After-row_at-pivot, After-row_at-target, Start}
 
 abbrev Small : List ℤ → Type 0
 Small l = T (every small l)
 
 abbrev NotBoth : ℕ → List ℤ → List ℤ → Type 0
 NotBoth c target pivot = T (not (is_zero_of (entry (row_of pivot) c ++ entry (row_of target) c)))
-
-listed-length : (l : List ℤ) → length l ≤ 16 → length (listed l).values ≡ 16
-listed-length l h = simp (length-append, length-replicate) (omega arith)
 
 -- the arguments
 module _ (c : Start) where
@@ -168,15 +165,14 @@ module _ (c : After-put_multipliers_at-found) where
   h-is : h ≡ (x start).h
   h-is = c.put_multipliers_at-found.ensures.h_after ∙ ap (λ y. y.h) multipliers-are
 
-  found-is : roots_alone found ≡ listed (roots (x start).g)
-  found-is =
-      found-alone (x start).g (c.put_multipliers_at-found.ensures.value ∙ ap (λ y. listed_with (roots_with_of y.g)) multipliers-are)
+  found-is : found ≡ listed_with (roots_with_of (x start).g)
+  found-is = c.put_multipliers_at-found.ensures.value ∙ ap (λ y. listed_with (roots_with_of y.g)) multipliers-are
 
   count-is : found.count ≡ length (roots (x start).g)
-  count-is = ap (λ f. f.count) found-is
+  count-is = found-count (x start).g found-is
 
   held-is : roots_held found ≡ roots (x start).g
-  held-is = held_of (roots (x start).g) found-is
+  held-is = found-held (x start).g found-is
 
 -- the relations
 module _ (c : After-list_roots) where
@@ -260,10 +256,10 @@ returns-then-count-gt16 c =
     let e = (goal.at.returns-then-count-gt16 c).After-put_multipliers_at-found in
     let b = start e in
     let many : 16 < (p b).count + length (roots (x b).g) = omega (arith, count-is e, c.if-count-gt16.true) in record {
-      reached = reached-same refl c.answer.ensures
+      left = p b;
+      reached = reached-same refl refl
           (combine-is b ∙ combine-refused (side b) (ready b) (j b) (inside b) (settled b) (x b) many)
           (refused-reached (ready b) 8);
-      done_value = ap (λ o. o.done) c.answer.ensures;
     }
 
 pub list_roots-requires : goal.list_roots-requires
@@ -272,7 +268,7 @@ list_roots-requires c =
     let b = start e in
     let t = (target-read e).row_at-target.ensures in
     let row = subst Small (sym t.result_value) (target_small b) in
-    let values = ap (λ f. length f.values) (found-is e) ∙ listed-length (roots (x b).g) (omega (arith, few b)) in record {
+    let values = found-long (x b).g (found-is e) (omega (arith, few b)) in record {
       listing = ((ready b).listing, omega (arith, c.if-count-gt16.false), values);
       t = (subst Small (sym (held-is e)) (roots-small (x b).g (fits b).0.1), row, t.result_len);
     }
@@ -290,28 +286,34 @@ combined-worked-requires c =
     subst (λ w. RowsFit (g m) (h m) w (pivot-read m).row_at-pivot.result.now (origin l).args.other) (sym c.load-row.ensures)
     (row_fits l)
 
+-- the new row
+module _ (c : After-combined-worked) where
+  abbrev listings : After-list_roots
+  listings = (goal.at.After-combined-worked c).After-list_roots
+
+  abbrev begun : Start
+  begun = origin listings
+
+  shown : Shown c.combined-worked.result (new begun)
+  shown = subst (Shown c.combined-worked.result) (ap (made listings) c.load-row.ensures ∙ made-is listings) c.combined-worked.ensures
+
 pub put_limited-requires : goal.put_limited-requires
 put_limited-requires c =
-    let l = (goal.at.put_limited-requires c).After-list_roots in
-    let b = origin l in
-    let load = c.load-row in
-    let fine = subst Storable (sym (ap (made l) load.ensures ∙ made-is l)) (storable b) in
-    (room b (i b) (inside b), subst Full (sym c.combined-worked.ensures.row_value) (full-worked (made l load.result) fine))
+    let w = (goal.at.put_limited-requires c).After-combined-worked in
+    let b = begun w in
+    (room b (i b) (inside b), full-limited (new b) (storable b) w.combined-worked.result (shown w))
 
 pub returns : goal.returns
 returns c =
-    let l = (goal.at.returns c).After-list_roots in
-    let m = multiplied l in
-    let b = origin l in
-    let load = c.load-row in
-    let same = ap (made l) load.ensures ∙ made-is l in
-    let refusal = c.combined-worked.ensures.refusal_value ∙ ap refusal_of same in
-    let few : (p b).count + length (roots (x b).g) ≤ 16 = omega (arith, count-is m, l.if-count-gt16.false) in record {
+    let w = (goal.at.returns c).After-combined-worked in
+    let l = listings w in
+    let b = begun w in
+    let few : (p b).count + length (roots (x b).g) ≤ 16 = omega (arith, count-is (multiplied l), l.if-count-gt16.false) in
+    record {
+      left = _;
       reached = reached-same
-          (c.put_limited.ensures.rows_after ∙ ap₂ (saved (rows b) (i b)) refusal
-          (ap numbers_held c.combined-worked.ensures.row_value ∙ numbers-worked (made l load.result) ∙ ap numbers_of same))
-          (c.put_limited.ensures.value ∙ ap₂ (λ n k. answer_of n (listed_progress (p b) k)) refusal (count-is m))
+          (c.put_limited.ensures.rows_after ∙ saved-limited (rows b) (i b) (new b) w.combined-worked.result (shown w))
+          (c.put_limited.ensures.value ∙ ap₂ (λ n k. answer_of n (listed_progress (p b) k)) (shown w).0 (count-is (multiplied l)))
           (combine-is b)
           (combine-reached (side b) (ready b) (j b) (inside b) (settled b) (x b) (relisted l) few (storable b));
-      done_value = ap (λ o. o.done) c.put_limited.ensures.value;
     }

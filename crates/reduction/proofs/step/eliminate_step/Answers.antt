@@ -14,9 +14,11 @@ use Rattle.rules.specs.Rows.{width}
 use Rattle.rules.specs.Stores.{row_of}
 use Rattle.rules.specs.Elimination.{Side, multipliers_at, combine_step_of}
 use Rattle.reduction.specs.declared.step.Progress.{Progress}
-use Rattle.reduction.specs.declared.step.Outcome as Answer
+use Rattle.std.specs.Prelude.{Result}
+use Rattle.refusals.specs.declared.Refusal.{Refusal}
+use Rattle.reduction.specs.Answer.{step_answer}
 use Rattle.sides.specs.Lent.{side_of}
-use Rattle.reduction.specs.Progress.{Ready, Reached, state_of}
+use Rattle.reduction.specs.Progress.{Ready, Reached, Came, state_of}
 use Rattle.reduction.specs.NewRows.{row_room}
 use Rattle.reduction.specs.StoreExchange.{numbers_at, exchanged_rows, narrowed}
 use Rattle.reduction.specs.StoreExchange.{narrowed-exchanged, narrowed-same, narrowed-kept, exchanged-first, exchanged-second}
@@ -81,15 +83,18 @@ module _ (c : Start) where
       )
 
   -- the outcome, for a store that is the narrowed one
-  reached : (r rows' relations' : List ℤ) (o : Answer.Outcome) → r ≡ narrowed rows i j
+  reached : (r rows' relations' : List ℤ) (o : Result Progress Refusal) → r ≡ narrowed rows i j
       → (let s = state_of r relations p in
-      Reached n r relations rows' relations' (p.shifts + 1) o (combine_step_of side s i j (multipliers_at s i j)))
+      Came step_answer n r relations rows' relations' (p.shifts + 1) o (combine_step_of side s i j (multipliers_at s i j)))
       → let s = state_of (narrowed rows i j) relations p in
-      Reached n rows relations rows' relations' (p.shifts + 1) o (combine_step_of side s i j (multipliers_at s i j))
+      Came step_answer n rows relations rows' relations' (p.shifts + 1) o (combine_step_of side s i j (multipliers_at s i j))
   reached r rows' relations' o e h =
-      reached-after (narrowed-kept n rows ready.rows-within i j inside other)
-      (subst (λ d. let s = state_of d relations p in
-      Reached n d relations rows' relations' (p.shifts + 1) o (combine_step_of side s i j (multipliers_at s i j))) e h)
+      record {
+        left = h.left;
+        reached = reached-after (narrowed-kept n rows ready.rows-within i j inside other)
+            (subst (λ d. let s = state_of d relations p in
+            Reached n d relations rows' relations' (p.shifts + 1) (step_answer o h.left) (combine_step_of side s i j (multipliers_at s i j))) e h.reached);
+      }
 
   -- the rows after the exchange
   first : numbers_at (exchanged_rows rows i j) i ≡ numbers_at rows j
@@ -128,10 +133,7 @@ returns-then-width-other c =
     let call = c.exchange in
     let wider = c.width_at-other in
     let wide = sym (narrowed-exchanged (rows b) (i b) (j b) (omega (arith, width_is b, wider.ensures, c.if-width-other.true))) in
-    record {
-      reached = reached b call.new.rows c.combine_step.new.rows c.combine_step.new.relations c.combine_step.result (call.ensures ∙ wide) c.combine_step.ensures.reached;
-      done_value = c.combine_step.ensures.done_value;
-    }
+    reached b call.new.rows c.combine_step.new.rows c.combine_step.new.relations c.combine_step.result (call.ensures ∙ wide) c.combine_step.ensures
 
 pub combine_step-requires-2 : goal.combine_step-requires-2
 combine_step-requires-2 c =
@@ -146,7 +148,4 @@ returns c =
     let b = (goal.at.returns c).Start in
     let wider = c.width_at-other in
     let same = sym (narrowed-same (rows b) (i b) (j b) (omega (arith, width_is b, wider.ensures, c.if-width-other.false))) in
-    record {
-      reached = reached b (rows b) c.combine_step-2.new.rows c.combine_step-2.new.relations c.combine_step-2.result same c.combine_step-2.ensures.reached;
-      done_value = c.combine_step-2.ensures.done_value;
-    }
+    reached b (rows b) c.combine_step-2.new.rows c.combine_step-2.new.relations c.combine_step-2.result same c.combine_step-2.ensures

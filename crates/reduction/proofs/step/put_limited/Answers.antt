@@ -1,22 +1,19 @@
 -- `reduction::step::put_limited` meets its contract.
 -- Assumes nothing.
-use mathlib.Core.Path.{sym}
-use Rattle.working_rows.specs.Working.{numbers_held}
+use mathlib.Core.Path.{refl, sym}
+use Rattle.std.proofs.lemmas.Result.{err_from_is_err_and}
+use Rattle.refusals.specs.Refusals.{number-nonzero}
 use Rattle.reduction.specs.NewRows.{saved, saved-none}
 use Rattle.reduction.proofs.step.put_limited.Goals as goal
 
-pub returns-then-refusal-ne0 : goal.returns-then-refusal-ne0
-returns-then-refusal-ne0 c =
-    let args = c.args in record {
-      rows_after = sym (saved-none args.rows.now args.i args.worked.refusal (numbers_held args.worked.row)
-          c.if-refusal-ne0.true);
-      value = c.answer.ensures;
+pub returns-in_err-row : goal.returns-in_err-row
+returns-in_err-row c =
+    let p = err_from_is_err_and c.from_residual.result c.from_residual.ensures.1 in
+    rw (p.1, p.2, c.in_err-row.was) record {
+      rows_after = sym (saved-none c.args.rows.now c.args.i _ _ (number-nonzero c.in_err-row.field-0.0));
+      value = refl;
     }
 
 pub returns : goal.returns
 unfolding saved
-returns c =
-    record {
-      rows_after = rw c.if-refusal-ne0.false c.save.ensures;
-      value = rw c.if-refusal-ne0.false c.answer-2.ensures;
-    }
+returns c = rw c.in_ok-row.was record { rows_after = c.save.ensures; value = refl }

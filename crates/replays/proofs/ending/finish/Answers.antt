@@ -1,6 +1,8 @@
 -- `replays::ending::finish` meets its contract: each test is a part of what the end asks.
 -- Assumes nothing.
-use mathlib.Core.Path.{◌≡◌, refl, sym, ◌∙◌, ap, subst}
+use mathlib.Core.Path.{◌≡◌, refl, sym, ◌∙◌, ap, ap₂, subst}
+use native.Mathlib.Nat.{le_refl}
+use borrow.Author.Tests.{le-leb}
 use mathlib.Core.Bool.{true}
 use mathlib.Core.List.{List, map}
 use Prim.Native.Nat.{ℕ, pred, ◌≤◌}
@@ -71,8 +73,7 @@ pub returns-then-not-order_holds : goal.returns-then-not-order_holds
 returns-then-not-order_holds c =
     let s = (goal.at.returns-then-not-order_holds c).Start in
     λ relations ready.
-    ended_same c.answer.ensures refl
-    (end-unheld (m s) (numbers s) ready (sym c.order_holds.ensures ∙ c.if-not-order_holds.true))
+    end-unheld (m s) (numbers s) ready (sym c.order_holds.ensures ∙ c.if-not-order_holds.true)
 
 pub from_zero-order-requires : goal.from_zero-order-requires
 from_zero-order-requires c =
@@ -97,9 +98,8 @@ returns-then-not-pivots_right c =
     let e = held z in
     let s = base z in
     λ relations ready.
-    ended_same c.answer-then-not-pivots_right.ensures refl
-    (end-unpivoted (m s) (numbers s) ready s.requires.2 s.requires.1 (holds e)
-    (sym (pivots-are z _ (order_is z)) ∙ sym c.pivots_right.ensures ∙ c.if-not-pivots_right.true))
+    end-unpivoted (m s) (numbers s) ready s.requires.2 s.requires.1 (holds e)
+    (sym (pivots-are z _ (order_is z)) ∙ sym c.pivots_right.ensures ∙ c.if-not-pivots_right.true)
 
 pub returns : goal.returns
 returns c =
@@ -107,6 +107,8 @@ returns c =
     let e = held z in
     let s = base z in
     λ relations ready.
-    ended_same (ap (λ o. record { refusal = 0; done = true; progress = settled_at (p s) o }) (order_is z)) refl
+    ended_same
+    (ap₂ (λ d o. record { refusal = 0; done = d; progress = settled_at (p s) o }) (le-leb (p s).rows (p s).rows (le_refl (p s).rows)) (order_is z))
+    refl
     (end-accepted (m s) (numbers s) ready s.requires.2 s.requires.1 (holds e)
     (sym (pivots-are z _ (order_is z)) ∙ sym c.pivots_right.ensures ∙ c.if-not-pivots_right.false))

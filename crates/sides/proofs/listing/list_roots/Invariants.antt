@@ -1,7 +1,6 @@
 -- `sides::listing::list_roots` meets its contract. The loop's invariant: the relations of the first k roots are listed.
 -- Assumes nothing.
-use mathlib.Core.Path.{◌≡◌}
-use Prim.Native.Nat.{◌-◌, ◌≤◌}
+use Prim.Native.Nat.{◌≤◌}
 use lib.ListN.{take}
 use Rattle.rules.specs.Elimination.{listing}
 use Rattle.multiplicities.specs.Counts.{roots_held}
@@ -11,7 +10,4 @@ use Rattle.sides.proofs.listing.list_roots.Given as goal
 
 abbrev pub invariant-loop-k : goal.invariant-loop-k
 invariant-loop-k l =
-    (l.k ≤ l.n) × ((l.n ≡ l.found.count) × Relisted l.count l.row (take l.k (listing (side_of l.side) (roots_held l.found))) l.initial.relations l.relations)
-
-abbrev pub decreases-loop-k : goal.decreases-loop-k
-decreases-loop-k l = l.n - l.k
+    (l.k ≤ l.found.count) × Relisted l.count l.row (take l.k (listing (side_of l.side) (roots_held l.found))) l.initial.relations l.relations

@@ -99,12 +99,6 @@ mirror_row-requires c =
     let d = (goal.at.mirror_row-requires c).After-negated in
     ((here d).requires.0, room d, rw (behind d) (row_small (store (here d)) (place d) (numbers (here d))))
 
-pub overflow_add-k : goal.overflow_add-k
-overflow_add-k c = omega arith
-
-pub loop-k-smaller : goal.loop-k-smaller
-loop-k-smaller c = omega arith
-
 pub loop-k-preserved : goal.loop-k-preserved
 loop-k-preserved c =
     let d = (goal.at.loop-k-preserved c).After-negated in

@@ -37,12 +37,6 @@ mirror_row-requires c =
     let numbers = part_small row_length at.args.equations (i at) (store at) at.loop-i-test.true at.loop-i.invariant.1.within in
     (at.requires.0, long at, numbers)
 
-pub overflow_add-i : goal.overflow_add-i
-overflow_add-i c = omega arith
-
-pub loop-i-smaller : goal.loop-i-smaller
-loop-i-smaller c = omega arith
-
 pub loop-i-preserved : goal.loop-i-preserved
 loop-i-preserved c =
     let at = (goal.at.loop-i-preserved c).In-loop-i in

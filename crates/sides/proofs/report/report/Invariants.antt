@@ -2,17 +2,14 @@
 -- diagonal polynomials with its times, which are at most sixteen for each.
 -- Assumes nothing.
 use mathlib.Core.Path.{◌≡◌}
-use Prim.Native.Nat.{◌*◌, ◌-◌, ◌≤◌}
 use lib.ListN.{length}
+use Prim.Native.Nat.{◌*◌, ◌≤◌}
 use Rattle.rules.specs.Limits.{coefficient_count}
 use Rattle.sides.specs.Lent.{side_of}
+use Rattle.sides.specs.FurthestRoots.{times_of}
 use Rattle.sides.specs.ReportLaws.{reported}
 use Rattle.sides.proofs.report.report.Given as goal
 
 abbrev pub invariant-loop-j : goal.invariant-loop-j
 invariant-loop-j l =
-    (l.settled ≤ length l.order) × (l.j ≤ l.settled) × (l.answer.times ≤ l.j * coefficient_count)
-    × (l.answer ≡ reported (side_of l.side) l.span l.settled l.store l.order l.j)
-
-abbrev pub decreases-loop-j : goal.decreases-loop-j
-decreases-loop-j l = l.settled - l.j
+    (l.settled ≤ length l.fn.order) × (times_of l.answer ≤ l.j * coefficient_count) × (l.answer ≡ reported (side_of l.side) l.span l.settled l.store l.fn.order l.j)

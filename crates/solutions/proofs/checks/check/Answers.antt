@@ -15,12 +15,12 @@ use Rattle.stores.specs.Validity.{the_sizes_of}
 use Rattle.solutions.specs.SolutionCalls.{Work}
 use Rattle.solutions.specs.SolutionChecks as Checks
 use Rattle.solutions.proofs.checks.check.Goals as goal
-use Rattle.solutions.proofs.checks.check.Goals.{After-check_stores-system, After-homogeneous, After-lent_long, Else-not-lent_long, Else-system-eq1, Start}
+use Rattle.solutions.proofs.checks.check.Goals.{After-number_in-system, After-homogeneous, After-lent_long, Else-not-lent_long, Else-system-eq1, Start}
 
 -- The check of the system.
-module _ (a : After-check_stores-system) where
+module _ (a : After-number_in-system) where
   abbrev s : Start
-  s = (goal.at.After-check_stores-system a).Start
+  s = (goal.at.After-number_in-system a).Start
 
   abbrev z : Stores.Sizes
   z = the_sizes_of s.args.sizes
@@ -46,13 +46,13 @@ module _ (a : After-check_stores-system) where
   abbrev system : ℕ
   system = check_stores_of z count rows relations
 
-  system-is : a.check_stores-system.result ≡ system
-  system-is = a.check_stores-system.ensures
+  system-is : a.number_in-system.result ≡ system
+  system-is = a.number_in-system.ensures ∙ a.check_stores.ensures
 
 -- Sizes and lengths of the system are right.
 module _ (d : Else-system-eq1) where
-  abbrev a : After-check_stores-system
-  a = (goal.at.Else-system-eq1 d).After-check_stores-system
+  abbrev a : After-number_in-system
+  a = (goal.at.Else-system-eq1 d).After-number_in-system
 
   not-two : system a ≢ 2
   not-two e = d.if-system-eq2.false (system-is a ∙ e)
@@ -66,12 +66,12 @@ module _ (d : Else-system-eq1) where
 
 pub returns-then-system-eq2 : goal.returns-then-system-eq2
 returns-then-system-eq2 c =
-    let a = (goal.at.returns-then-system-eq2 c).After-check_stores-system in
+    let a = (goal.at.returns-then-system-eq2 c).After-number_in-system in
     Checks.sizes-wrong (z a) (count a) (rows a) (relations a) (w a) (sym (system-is a) ∙ c.if-system-eq2.true)
 
 pub returns-then-system-eq1 : goal.returns-then-system-eq1
 returns-then-system-eq1 c =
-    let a = (goal.at.returns-then-system-eq1 c).After-check_stores-system in
+    let a = (goal.at.returns-then-system-eq1 c).After-number_in-system in
     Checks.lengths-wrong (z a) (count a) (rows a) (relations a) (w a) (sym (system-is a) ∙ c.if-system-eq1.true)
 
 pub lent_long-requires : goal.lent_long-requires

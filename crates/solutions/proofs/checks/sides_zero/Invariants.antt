@@ -10,6 +10,3 @@ use Rattle.solutions.proofs.checks.sides_zero.Given as goal
 
 abbrev pub invariant-loop-i : goal.invariant-loop-i
 invariant-loop-i l = (l.i ≤ l.count) × (every (side_zero l.at) (take l.i (parts l.width l.count l.store)) ≡ true)
-
-abbrev pub decreases-loop-i : goal.decreases-loop-i
-decreases-loop-i l = l.count - l.i

@@ -17,19 +17,20 @@ use Rattle.sides.specs.Lent.{Kept}
 use Rattle.sides.specs.StoreStates.{kept_same, kept_then}
 use Rattle.runs.specs.CallLaws.{Checked, checked, few-blocks}
 use Rattle.constant_rows.specs.RowLimits.{rows-limits}
-use Rattle.echelon.specs.EliminatedLimits.{eliminate-limits}
 use Rattle.constant_rows.specs.Constants.{fine, the_columns_of, constant_rows_of}
-use Rattle.constant_rows.specs.ConstantStores.{reports-made}
-use Rattle.solutions.specs.CourseLaws.{reports-refused, rows-small, rows-count, rest, left, sound}
+use Rattle.constant_rows.specs.ConstantStores.{told-made, told-passed, told-refused, told-fine, told-stopped}
+use Rattle.solutions.specs.CourseLaws.{refused-on, rows-small, rows-count, rest, left, sound}
 use Rattle.echelon.specs.Eliminated.{Pivot, eliminate}
 use Rattle.back_substitution.specs.Listed.{sequences}
-use Rattle.constant_rows.specs.Matrices.{matrix_rows, Reports}
+use Rattle.constant_rows.specs.Matrices.{matrix_rows, Reports, Told}
+use Rattle.refusals.specs.Refusals.{refusal_in}
+use Rattle.echelon.specs.declared.Eliminated.{Eliminated}
 use Rattle.echelon.specs.MatrixTurns.{pivots_in}
 use Rattle.solutions.specs.SolutionAnswers.{list_for_of}
 use Rattle.constant_rows.specs.ListLengths.{list_columns, matrix_need}
 use Rattle.echelon.specs.SoundRows.{Sound}
 use Rattle.solutions.proofs.course.list_for.Goals as goal
-use Rattle.solutions.proofs.course.list_for.Goals.{After-constant_rows-refusal, After-eliminate-eliminated, After-span, Else-refusal-ne0, Else-refusal-ne0-2, Start}
+use Rattle.solutions.proofs.course.list_for.Goals.{After-constant_rows, After-eliminate, After-span, In_ok-constant_rows, In_ok-eliminated, Start}
 
 module _ (s : Start) where
   abbrev z : Stores.Sizes
@@ -62,44 +63,45 @@ module _ (s : Start) where
   few-equations = bounds.few-equations
 
 -- The rows are made, or a limit is passed.
-module _ (d : After-constant_rows-refusal) where
+module _ (d : After-constant_rows) where
   abbrev st : Start
-  st = (goal.at.After-constant_rows-refusal d).Start
+  st = (goal.at.After-constant_rows d).Start
 
   abbrev matrix₁ : List ℤ
-  matrix₁ = d.constant_rows-refusal.new.matrix
+  matrix₁ = d.constant_rows.new.matrix
 
   abbrev Rows : List (List ℤ) → Type 0
   Rows rs = matrix_rows (the_columns_of (m st) (N st)) (length rs) matrix₁ ≡ rs
 
-  reported : Reports Rows (constant_rows_of (z st) (N st) (rows st) (relations st)) d.constant_rows-refusal.result
-  reported = d.constant_rows-refusal.ensures.reports
+  reported : Reports Rows (constant_rows_of (z st) (N st) (rows st) (relations st)) (refusal_in d.constant_rows.result)
+  reported = d.constant_rows.ensures.reports
 
   kept : Kept matrix_need st.args.matrix.now matrix₁
-  kept = d.constant_rows-refusal.ensures.kept
+  kept = d.constant_rows.ensures.kept
 
-pub returns-then-refusal-ne0 : goal.returns-then-refusal-ne0
+pub returns-in_err-constant_rows : goal.returns-in_err-constant_rows
 unfolding list_for_of
-returns-then-refusal-ne0 c =
-    let d = (goal.at.returns-then-refusal-ne0 c).After-constant_rows-refusal in
-    let s = st d in record {
-      reports = reports-refused (Rows d) _ (constant_rows_of (z s) (N s) (rows s) (relations s)) _ d.constant_rows-refusal.result (reported d)
-          c.if-refusal-ne0.true;
+returns-in_err-constant_rows c =
+    let d = (goal.at.returns-in_err-constant_rows c).After-constant_rows in
+    let s = st d in
+    let r = c.in_err-constant_rows.field-0.0 in record {
+      reports = told-refused _ _ _ r c.from_residual.ensures.1
+          (refused-on (constant_rows_of (z s) (N s) (rows s) (relations s)) _ _ (told-passed _ _ _ r (reported d) c.in_err-constant_rows.was));
       kept = (kept d, kept_same _ _);
     }
 
 -- They are made.
-module _ (e : Else-refusal-ne0) where
-  abbrev d : After-constant_rows-refusal
-  d = (goal.at.Else-refusal-ne0 e).After-constant_rows-refusal
+module _ (e : In_ok-constant_rows) where
+  abbrev d : After-constant_rows
+  d = (goal.at.In_ok-constant_rows e).After-constant_rows
 
   abbrev s : Start
   s = st d
 
   made : (rs : List (List ℤ)) × (constant_rows_of (z s) (N s) (rows s) (relations s) ≡ fine rs) × Rows d rs
   made =
-      reports-made (Rows d) (constant_rows_of (z s) (N s) (rows s) (relations s)) d.constant_rows-refusal.result
-      (rows-limits (z s) (N s) (rows s) (relations s)) (reported d) e.if-refusal-ne0.false
+      told-made (Rows d) (constant_rows_of (z s) (N s) (rows s) (relations s)) d.constant_rows.result tt
+      (rows-limits (z s) (N s) (rows s) (relations s)) (reported d) e.in_ok-constant_rows.was
 
   abbrev rs : List (List ℤ)
   rs = made.0
@@ -108,15 +110,15 @@ module _ (e : Else-refusal-ne0) where
   columns-few = let indices : N s + 1 ≤ 16 = omega (arith, s.requires.last_le_largest_index.0) in mul-le-mul indices (few s)
 
 pub overflow_mul-columns : goal.overflow_mul-columns
-overflow_mul-columns c = omega (arith, columns-few (goal.at.overflow_mul-columns c).Else-refusal-ne0)
+overflow_mul-columns c = omega (arith, columns-few (goal.at.overflow_mul-columns c).In_ok-constant_rows)
 
 pub span-requires : goal.span-requires
-span-requires c = (ok (s (goal.at.span-requires c).Else-refusal-ne0)).sizes
+span-requires c = (ok (s (goal.at.span-requires c).In_ok-constant_rows)).sizes
 
 -- How many there are.
 module _ (f : After-span) where
-  abbrev e : Else-refusal-ne0
-  e = (goal.at.After-span f).Else-refusal-ne0
+  abbrev e : In_ok-constant_rows
+  e = (goal.at.After-span f).In_ok-constant_rows
 
   abbrev n : ℕ
   n = (N (s e) + 1) * m (s e)
@@ -161,9 +163,9 @@ overflow_mul-asked c = omega (arith, product-few (goal.at.overflow_mul-asked c).
 pub overflow_add-asked-3 : goal.overflow_add-asked-3
 overflow_add-asked-3 c = omega (arith, asked-few (goal.at.overflow_add-asked-3 c).After-span)
 
-pub eliminate-eliminated-requires : goal.eliminate-eliminated-requires
-eliminate-eliminated-requires c =
-    let f = (goal.at.eliminate-eliminated-requires c).After-span in
+pub eliminate-requires : goal.eliminate-requires
+eliminate-requires c =
+    let f = (goal.at.eliminate-requires c).After-span in
     let s = s (e f) in (
       columns-few (e f),
       asked-few f,
@@ -172,53 +174,53 @@ eliminate-eliminated-requires c =
     )
 
 -- The elimination.
-module _ (g : After-eliminate-eliminated) where
+module _ (g : After-eliminate) where
   abbrev f : After-span
-  f = (goal.at.After-eliminate-eliminated g).After-span
+  f = (goal.at.After-eliminate g).After-span
 
   abbrev a : Start
   a = s (e f)
 
   abbrev matrix₂ : List ℤ
-  matrix₂ = g.eliminate-eliminated.new.matrix
+  matrix₂ = g.eliminate.new.matrix
 
-  abbrev Settled : List Pivot → Type 0
-  Settled ps =
-      (g.eliminate-eliminated.result.settled ≡ length ps) × (g.eliminate-eliminated.result.settled ≤ n f)
-      × (length g.eliminate-eliminated.result.columns ≡ list_columns)
-      × (pivots_in (n f) (take g.eliminate-eliminated.result.settled g.eliminate-eliminated.result.columns) matrix₂ ≡ ps)
+  abbrev Settled : Eliminated → List Pivot → Type 0
+  Settled x ps =
+      (x.settled ≡ length ps) × (x.settled ≤ n f) × (length x.columns ≡ list_columns)
+      × (pivots_in (n f) (take x.settled x.columns) matrix₂ ≡ ps)
 
-  eliminated : Reports Settled (eliminate [] (rs (e f))) g.eliminate-eliminated.result.refusal
-  eliminated = rw (held f) at g.eliminate-eliminated.ensures.reports
+  eliminated : Told Settled (eliminate [] (rs (e f))) g.eliminate.result
+  eliminated = rw (held f) at g.eliminate.ensures.reports
 
   kept-both : Kept matrix_need a.args.matrix.now matrix₂
-  kept-both = kept_then (kept (d (e f))) g.eliminate-eliminated.ensures.kept
+  kept-both = kept_then (kept (d (e f))) g.eliminate.ensures.kept
 
-pub returns-then-refusal-ne0-2 : goal.returns-then-refusal-ne0-2
-returns-then-refusal-ne0-2 c =
-    let g = (goal.at.returns-then-refusal-ne0-2 c).After-eliminate-eliminated in
+pub returns-in_err-eliminated : goal.returns-in_err-eliminated
+returns-in_err-eliminated c =
+    let g = (goal.at.returns-in_err-eliminated c).After-eliminate in
     let t = a g in
-    let onward = rest (z t) (N t) (rows t) (relations t) (rs (e (f g))) (made (e (f g))).1 in record {
+    let onward = rest (z t) (N t) (rows t) (relations t) (rs (e (f g))) (made (e (f g))).1 in
+    let r = c.in_err-eliminated.field-0.0 in record {
       reports = rw onward
-          (reports-refused (Settled g) _ (eliminate [] (rs (e (f g)))) (sequences (the_columns_of (z t).m (N t)))
-          g.eliminate-eliminated.result.refusal
-          (eliminated g)
-          c.if-refusal-ne0-2.true);
+          (told-refused _ _ _ r c.from_residual-in_err-eliminated.ensures.1
+          (refused-on (eliminate [] (rs (e (f g)))) (sequences (the_columns_of (z t).m (N t))) _
+          (told-stopped (Settled g) _ _ r (eliminated g) c.in_err-eliminated.was)));
       kept = (kept-both g, kept_same _ _);
     }
 
 -- The rows are settled.
-module _ (h : Else-refusal-ne0-2) where
-  abbrev g : After-eliminate-eliminated
-  g = (goal.at.Else-refusal-ne0-2 h).After-eliminate-eliminated
+module _ (h : In_ok-eliminated) where
+  abbrev g : After-eliminate
+  g = (goal.at.In_ok-eliminated h).After-eliminate
 
   abbrev t : Start
   t = a g
 
-  settled : (ps : List Pivot) × (eliminate [] (rs (e (f g))) ≡ fine ps) × Settled g ps
-  settled =
-      reports-made (Settled g) (eliminate [] (rs (e (f g)))) g.eliminate-eliminated.result.refusal
-      (eliminate-limits (rs (e (f g))) []) (eliminated g) h.if-refusal-ne0-2.false
+  abbrev x : Eliminated
+  x = h.in_ok-eliminated.eliminated
+
+  settled : (ps : List Pivot) × (eliminate [] (rs (e (f g))) ≡ fine ps) × Settled g x ps
+  settled = told-fine (Settled g) (eliminate [] (rs (e (f g)))) g.eliminate.result x (eliminated g) h.in_ok-eliminated.was
 
   abbrev ps : List Pivot
   ps = settled.0
@@ -230,7 +232,7 @@ module _ (h : Else-refusal-ne0-2) where
       (sound (z t) (N t) (rows t) (relations t) (rs (e (f g))) (made (e (f g))).1 ps settled.1)
 
   onward : list_for_of (z t) (N t) (rows t) (relations t)
-      ≡ sequences (n (f g)) (pivots_in (n (f g)) (take g.eliminate-eliminated.result.settled g.eliminate-eliminated.result.columns) (matrix₂ g))
+      ≡ sequences (n (f g)) (pivots_in (n (f g)) (take x.settled x.columns) (matrix₂ g))
   unfolding the_sizes_of
   onward =
       left (z t) (N t) (rows t) (relations t) (rs (e (f g))) (made (e (f g))).1 ps settled.1
@@ -238,7 +240,7 @@ module _ (h : Else-refusal-ne0-2) where
 
 pub list_sequences-requires : goal.list_sequences-requires
 list_sequences-requires c =
-    let h = (goal.at.list_sequences-requires c).Else-refusal-ne0-2 in
+    let h = (goal.at.list_sequences-requires c).In_ok-eliminated in
     let p = all_sound h in record {
       n_le_list_columns = (
         columns-few (e (f (g h))),
@@ -252,7 +254,7 @@ list_sequences-requires c =
 
 pub returns : goal.returns
 returns c =
-    let h = (goal.at.returns c).Else-refusal-ne0-2 in
+    let h = (goal.at.returns c).In_ok-eliminated in
     record {
       reports = rw (onward h) c.list_sequences.ensures.reports;
       kept = (kept-both (g h), c.list_sequences.ensures.kept);

@@ -11,6 +11,7 @@ use Rattle.rules.specs.Limits.{relation_length}
 use Rattle.rules.specs.Stores.{Sizes, equations, row_need}
 use Rattle.stores.specs.Validity.{the_sizes_of}
 use Rattle.runs.specs.CallLaws.{Checked, checked, few-blocks, few-equations}
+use Rattle.reduction.specs.Progress.{final_answer}
 use Rattle.solutions.specs.TrailingCopies.{copy-checked, copy_ran}
 use Rattle.solutions.proofs.trailing.copy_run.Goals as goal
 use Rattle.solutions.proofs.trailing.copy_run.Goals.{After-save, After-save-2, Start}
@@ -113,5 +114,5 @@ returns c =
     let st = s p in
     copy_ran (z st) (count st) (rows st) (relations st) st.args.work_rows.now st.args.work_relations.now (rows₁ p) _
     (relations₁ p) st.requires.relations_value st.requires.equations_in_bounds.0 st.requires.equations_in_bounds.1 (first p).save.ensures p.clear.ensures
-    p.save-2.ensures _ _ c.trailing_run.result
+    p.save-2.ensures _ _ (final_answer st.args.sizes.equations c.trailing_run.result)
     (rw c.span-span.ensures at c.trailing_run.ensures)

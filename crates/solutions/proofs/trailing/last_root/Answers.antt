@@ -3,29 +3,24 @@
 -- Assumes nothing.
 use mathlib.Core.Path.{◌≡◌, sym, ◌∙◌, ap, ap₂}
 use mathlib.Core.List.{List}
-use Prim.Native.Nat.{ℕ, ◌+◌, ◌-◌, ◌≤◌}
+use Prim.Native.Nat.{ℕ, ◌+◌, ◌-◌, ◌≤◌, ◌<◌}
 use native.Mathlib.Omega.{arith}
 use lib.Dec.{T}
 use lib.IntN.{ℤ}
+use lib.Seq.{length-take-le, get_or-take}
 use lib.ListN.{length, take, drop, get_or, length-take, length-drop}
-use mir.Syntax.{w64}
-use mir.Val.{SFits}
-use mir.Facts.{to_z-of_z}
 use Rattle.algebra.specs.Roots.{roots}
 use Rattle.rules.specs.Limits.{small, coefficient_count}
 use Rattle.lists.specs.Tests.{every}
 use Rattle.rules.specs.Elimination.{leading, trailing, furthest}
 use Rattle.working_rows.specs.Found.{Columns-at}
-use Rattle.rules.specs.Calls.{root_found, root_value}
 use Rattle.roots.specs.RootSearch.{answered}
-use Rattle.roots.specs.declared.RootAnswer.{RootAnswer}
-use Rattle.multiplicities.specs.declared.RootWith.{RootWith}
 use Rattle.sides.specs.FurthestRoots.{further_of}
 use Rattle.sides.specs.ReportLaws.{diagonal_at_of, diagonal-long, diagonal-small, part-lent}
-use Rattle.solutions.specs.LargestRoots.{answered-option, option-of}
+use Rattle.solutions.specs.LargestRoots.{option_of, option-of}
 use Rattle.solutions.specs.LastIndices.{last_none, last-next, last-all}
 use Rattle.solutions.proofs.trailing.last_root.Goals as goal
-use Rattle.solutions.proofs.trailing.last_root.Goals.{After-diagonal_at-from, After-largest_with-most, After-struct_told-1, In-loop-j, Start}
+use Rattle.solutions.proofs.trailing.last_root.Goals.{After-diagonal_at-from, After-largest_root, In-loop-j, Start}
 
 -- diagonal polynomial j
 module _ (c : In-loop-j) where
@@ -53,48 +48,45 @@ module _ (c : In-loop-j) where
   enough : settled ≤ length order
   enough = c.loop-j.invariant.0
 
+  inside : j < settled
+  inside = omega (arith, c.loop-j-test.true, length-take-le settled order enough)
+
+  column-is : get_or (take settled order) j 0 ≡ get_or order j 0
+  column-is = get_or-take settled order j 0 inside
+
   long : from + coefficient_count ≤ length store
   long =
-      diagonal-long trailing span settled store order enough start.requires.1 start.requires.2 j c.loop-j-test.true start.requires.3.long
+      diagonal-long trailing span settled store order enough start.requires.1 start.requires.2 j inside start.requires.3.long
 
   numbers : T (every small (take coefficient_count (drop from store)))
-  numbers = diagonal-small trailing span settled store order enough start.requires.1 start.requires.2 j c.loop-j-test.true start.requires.3
+  numbers = diagonal-small trailing span settled store order enough start.requires.1 start.requires.2 j inside start.requires.3
+
+from-is : (c : After-diagonal_at-from) → c.diagonal_at-from.result ≡ from (goal.at.After-diagonal_at-from c).In-loop-j
+from-is c =
+    let at = (goal.at.After-diagonal_at-from c).In-loop-j in
+    c.diagonal_at-from.ensures ∙ ap (diagonal_at_of trailing (span at) (j at)) (column-is at)
 
 -- it is the part that is lent
 part : (c : After-diagonal_at-from) → let at = (goal.at.After-diagonal_at-from c).In-loop-j in
     take (c.diagonal_at-from.result + coefficient_count - c.diagonal_at-from.result) (drop c.diagonal_at-from.result (store at))
     ≡ take coefficient_count (drop (from at) (store at))
-part c = part-lent (store (goal.at.After-diagonal_at-from c).In-loop-j) c.diagonal_at-from.result (from (goal.at.After-diagonal_at-from c).In-loop-j) c.diagonal_at-from.ensures
+part c = let at = (goal.at.After-diagonal_at-from c).In-loop-j in part-lent (store at) c.diagonal_at-from.result (from at) (from-is c)
 
 lent : (c : After-diagonal_at-from) → c.diagonal_at-from.result + coefficient_count ≤ length (store (goal.at.After-diagonal_at-from c).In-loop-j)
-lent c = rw c.diagonal_at-from.ensures (long (goal.at.After-diagonal_at-from c).In-loop-j)
+lent c = rw (from-is c) (long (goal.at.After-diagonal_at-from c).In-loop-j)
 
--- its furthest root, without how often it occurs
-abbrev alone : RootWith → RootAnswer
-alone w = record { found = w.found; root = w.root }
-
-root : (c : After-largest_with-most)
-    → let at = c.before.before.before in
-    alone c.largest_with-most.result ≡ answered (furthest leading (roots (take coefficient_count (drop (from at) (store at)))))
-root c =
-    let at = c.before.before.before in
-    ap alone c.largest_with-most.ensures ∙ ap (λ p. answered (furthest leading (roots p))) (part (goal.at.After-largest_with-most c).After-diagonal_at-from)
+-- its largest root
+root : (c : After-largest_root) → let at = (goal.at.After-largest_root c).In-loop-j in
+    c.largest_root.result ≡ answered (furthest leading (roots (take coefficient_count (drop (from at) (store at)))))
+root c = c.largest_root.ensures ∙ ap (λ p. answered (furthest leading (roots p))) (part (goal.at.After-largest_root c).After-diagonal_at-from)
 
 pub loop-j-init : goal.loop-j-init
-unfolding root_found root_value
-loop-j-init c =
-    let args = c.args in
-    let none = last_none args.span args.settled args.store.now args.order in
-    (omega arith, (omega arith, ap answered (sym none)))
-
-pub offset_bounds-order-j : goal.offset_bounds-order-j
-offset_bounds-order-j c = omega (arith, c.requires.0)
-
-pub bounds-order-j : goal.bounds-order-j
-bounds-order-j c = omega (arith, c.requires.0)
+loop-j-init c = (omega arith, ap answered (sym (last_none c.args.span c.args.settled c.args.store.now c.args.order)))
 
 pub diagonal_at-from-requires : goal.diagonal_at-from-requires
-diagonal_at-from-requires c = (omega (arith, (start c).requires.0), Columns-at (order c) (start c).requires.2 (j c), (start c).requires.1)
+diagonal_at-from-requires c =
+    let at = (goal.at.diagonal_at-from-requires c).In-loop-j in
+    (omega (arith, c.requires.0, inside at), rw (column-is at) (Columns-at (order at) c.requires.2 (j at)), c.requires.1)
 
 pub overflow_add-to : goal.overflow_add-to
 overflow_add-to c = omega (arith, lent c)
@@ -102,47 +94,33 @@ overflow_add-to c = omega (arith, lent c)
 pub offset_bounds-store-from : goal.offset_bounds-store-from
 offset_bounds-store-from c = omega (arith, lent c)
 
-pub slice_bounds-largest_with-count : goal.slice_bounds-largest_with-count
-slice_bounds-largest_with-count c = omega (arith, lent c)
+pub slice_bounds-largest_root-count : goal.slice_bounds-largest_root-count
+slice_bounds-largest_root-count c = omega (arith, lent c)
 
-pub slice_bounds-largest_with-start : goal.slice_bounds-largest_with-start
-slice_bounds-largest_with-start c = omega (arith, lent c)
+pub slice_bounds-largest_root-start : goal.slice_bounds-largest_root-start
+slice_bounds-largest_root-start c = omega (arith, lent c)
 
-pub slice_bounds-largest_with-end : goal.slice_bounds-largest_with-end
-slice_bounds-largest_with-end c = omega (arith, lent c)
+pub slice_bounds-largest_root-end : goal.slice_bounds-largest_root-end
+slice_bounds-largest_root-end c = omega (arith, lent c)
 
-pub largest_with-most-requires : goal.largest_with-most-requires
-largest_with-most-requires c =
-    let at = (goal.at.largest_with-most-requires c).In-loop-j in
-    rw (part (goal.at.largest_with-most-requires c).After-diagonal_at-from) (rw length-take (omega (arith, long at, length-drop (from at) (store at))), numbers at)
-
-fits-root : (c : After-struct_told-1) → SFits w64 c.largest_with-most.result.root
-fits-root c = record { sfits = c.struct_told-1.given.1.0.1 }
-
-pub larger-answer-requires : goal.larger-answer-requires
-larger-answer-requires c =
-    rw (to_z-of_z {w = w64} (fits-root c))
-    (answered-option _ c.loop-j.invariant.1.1, answered-option _ (root (goal.at.larger-answer-requires c).After-largest_with-most))
-
-pub overflow_add-j : goal.overflow_add-j
-overflow_add-j c = omega arith
-
-pub loop-j-smaller : goal.loop-j-smaller
-loop-j-smaller c = omega arith
+pub largest_root-requires : goal.largest_root-requires
+largest_root-requires c =
+    let at = (goal.at.largest_root-requires c).In-loop-j in
+    rw (part (goal.at.largest_root-requires c).After-diagonal_at-from)
+    (rw length-take (omega (arith, long at, length-drop (from at) (store at))), numbers at)
 
 pub loop-j-preserved : goal.loop-j-preserved
 loop-j-preserved c =
+    let call = (goal.at.loop-j-preserved c).After-largest_root in
     let at = (goal.at.loop-j-preserved c).In-loop-j in
-    let inv = at.loop-j.invariant in
-    let answer = ap₂ (λ x y. answered (further_of leading x y)) (option-of _ inv.1.1) (option-of _ (root (goal.at.loop-j-preserved c).After-largest_with-most)) in
-    let next = last-next (span at) (settled at) (store at) (order at) (enough at) (start at).requires.1 (start at).requires.2 (j at)
-    at.loop-j-test.true in
-    let larger = rw (to_z-of_z {w = w64} (fits-root (goal.at.loop-j-preserved c).After-struct_told-1)) at c.larger-answer.ensures in
-    (enough at, (omega arith, larger ∙ answer ∙ ap answered next))
+    let inv = c.loop-j.invariant in
+    let next = last-next (span at) (settled at) (store at) (order at) (enough at) c.requires.1 c.requires.2 (j at) (inside at) in
+    let answer = ap₂ (λ x y. answered (further_of leading (option_of x) (option_of y))) inv.1 (root call)
+    ∙ ap₂ (λ x y. answered (further_of leading x y)) (option-of _) (option-of _) in
+    (inv.0, c.larger-answer.ensures ∙ answer ∙ ap answered next)
 
 pub returns : goal.returns
 returns c =
     let inv = c.loop-j.invariant in
-    let all = last-all c.args.span c.args.settled c.args.store.now c.args.order inv.0
-    c.loop-j.j c.loop-j-test.false in
-    inv.1.1 ∙ ap answered all
+    let all : c.args.settled ≤ c.loop-j.j = omega (arith, c.loop-j-test.false, length-take-le c.args.settled c.args.order inv.0) in
+    inv.1 ∙ ap answered (last-all c.args.span c.args.settled c.args.store.now c.args.order inv.0 c.loop-j.j all)

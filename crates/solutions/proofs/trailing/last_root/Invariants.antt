@@ -2,7 +2,7 @@
 -- trailing diagonal polynomials.
 -- Assumes nothing.
 use mathlib.Core.Path.{◌≡◌}
-use Prim.Native.Nat.{◌-◌, ◌≤◌}
+use Prim.Native.Nat.{◌≤◌}
 use lib.ListN.{length}
 use Rattle.roots.specs.RootSearch.{answered}
 use Rattle.solutions.specs.LastIndices.{last_over}
@@ -10,7 +10,4 @@ use Rattle.solutions.proofs.trailing.last_root.Given as goal
 
 abbrev pub invariant-loop-j : goal.invariant-loop-j
 invariant-loop-j l =
-    (l.settled ≤ length l.order) × ((l.j ≤ l.settled) × (l.answer ≡ answered (last_over l.span l.settled l.store l.order l.j)))
-
-abbrev pub decreases-loop-j : goal.decreases-loop-j
-decreases-loop-j l = l.settled - l.j
+    (l.settled ≤ length l.fn.order) × (l.answer ≡ answered (last_over l.span l.settled l.store l.fn.order l.j))

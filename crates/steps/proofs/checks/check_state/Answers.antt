@@ -1,10 +1,12 @@
 -- `steps::checks::check_state` meets its contract. The sizes are tested first, then what a run tests of its stores, then the settled rows.
 -- Assumes nothing.
-use mathlib.Core.Path.{◌≡◌, sym, ◌∙◌, ap}
-use mathlib.Core.Bool.{true, false, cond}
+use Rattle.refusals.specs.Refusals.{number_of, number-nonzero}
+use mathlib.Core.Path.{◌≡◌, refl, sym, ◌∙◌, ap}
+use mathlib.Core.Bool.{Bool, true, false, cond}
+use Rattle.std.specs.Prelude.{◌≢◌, eqb}
+use Rattle.std.proofs.Common.{eqb→eq, true≢false}
 use mathlib.Core.List.{List}
 use Prim.Native.Nat.{ℕ}
-use borrow.Author.Rules.{rules}
 use lib.IntN.{ℤ}
 use lib.ListN.{length}
 use Rattle.lists.specs.Tests.{true-T}
@@ -15,21 +17,18 @@ use Rattle.steps.specs.SoundStates.{HeldBounds, sizes_held-iff}
 use Rattle.steps.specs.Handed.{held_of, sizes-fail, too_short, numbers-fail, pivots-tell, held-few, held-positive, held-columns}
 use Rattle.steps.specs.Handed.{held-room, pivots-held}
 use Rattle.steps.proofs.checks.check_state.Goals as goal
-use Rattle.steps.proofs.checks.check_state.Goals.{After-check_stores-checked, Else-checked-ne0, After-pivots_right, Start}
+use Rattle.steps.proofs.checks.check_state.Goals.{Else-not-sizes_held, In-Ok, After-pivots_right}
 
--- the sizes hold, and what a run tests of the stores
-module _ (c : After-check_stores-checked) where
-  abbrev start : Start
-  start = (goal.at.After-check_stores-checked c).Start
-
+-- the sizes hold
+module _ (c : Else-not-sizes_held) where
   abbrev x : Held
-  x = held_of start.args.state
+  x = held_of c.args.state
 
   abbrev rows : List ℤ
-  rows = start.args.rows.now
+  rows = c.args.rows.now
 
   abbrev relations : List ℤ
-  relations = start.args.relations.now
+  relations = c.args.relations.now
 
   hold : sizes_held_of x ≡ true
   hold = sym c.sizes_held.ensures ∙ c.if-not-sizes_held.false
@@ -37,22 +36,19 @@ module _ (c : After-check_stores-checked) where
   bounds : HeldBounds x
   bounds = (sizes_held-iff x).0 (true-T _ hold)
 
-  stored : c.check_stores-checked.result ≡ check_stores_of x.sizes x.relations rows relations
-  unfolding held_of
-  stored = c.check_stores-checked.ensures
-
 -- nothing is wrong with the stores
-module _ (c : Else-checked-ne0) where
-  abbrev checked : After-check_stores-checked
-  checked = (goal.at.Else-checked-ne0 c).After-check_stores-checked
+module _ (c : In-Ok) where
+  abbrev checked : Else-not-sizes_held
+  checked = (goal.at.In-Ok c).Else-not-sizes_held
 
   none : check_stores_of (x checked).sizes (x checked).relations (rows checked) (relations checked) ≡ 0
-  none = sym (stored checked) ∙ c.if-checked-ne0.false
+  unfolding held_of
+  none = sym c.in-Ok.ensures
 
 -- the test of the settled rows
 module _ (c : After-pivots_right) where
-  abbrev before : After-check_stores-checked
-  before = checked (goal.at.After-pivots_right c).Else-checked-ne0
+  abbrev before : Else-not-sizes_held
+  before = checked (goal.at.After-pivots_right c).In-Ok
 
   four : length (x before).order ≡ column_count
   unfolding held_of
@@ -68,7 +64,7 @@ module _ (c : After-pivots_right) where
 
   told : cond c.pivots_right.result 0 11 ≡ check_state_of (x before) (rows before) (relations before)
   told = ap (λ t. cond t 0 11) tested
-      ∙ pivots-tell (x before) (rows before) (relations before) (hold before) (none (goal.at.After-pivots_right c).Else-checked-ne0)
+      ∙ pivots-tell (x before) (rows before) (relations before) (hold before) (none (goal.at.After-pivots_right c).In-Ok)
 
 pub returns-then-not-sizes_held : goal.returns-then-not-sizes_held
 returns-then-not-sizes_held c =
@@ -76,38 +72,42 @@ returns-then-not-sizes_held c =
     sizes-fail (held_of args.state) args.rows.now args.relations.now
     (sym c.sizes_held.ensures ∙ c.if-not-sizes_held.true)
 
-pub returns-then-checked-eq1 : goal.returns-then-checked-eq1
-returns-then-checked-eq1 c =
-    let b = (goal.at.returns-then-checked-eq1 c).After-check_stores-checked in
-    too_short (x b) (rows b) (relations b) (hold b) (sym (stored b) ∙ c.if-checked-eq1.true)
+-- what is wrong with the stores, by the number of a run's check
+refused-state : (x : Held) (row_store relation_store : List ℤ) (n : ℕ) → sizes_held_of x ≡ true → n ≢ 0
+    → n ≡ check_stores_of x.sizes x.relations row_store relation_store
+    → (t : Bool) → eqb n 1 ≡ t → cond t 1 11 ≡ check_state_of x row_store relation_store
+refused-state x row_store relation_store n hold some e true h =
+    too_short x row_store relation_store hold (sym e ∙ eqb→eq n 1 (true-T _ h))
+refused-state x row_store relation_store n hold some e false h =
+    numbers-fail x row_store relation_store hold (λ f. true≢false (sym (ap (λ k. eqb k 1) (e ∙ f)) ∙ h)) (λ f. some (e ∙ f))
 
-pub returns-then-checked-ne0 : goal.returns-then-checked-ne0
-returns-then-checked-ne0 c =
-    let b = (goal.at.returns-then-checked-ne0 c).After-check_stores-checked in
-    numbers-fail (x b) (rows b) (relations b) (hold b) (λ e. c.if-checked-eq1.false (stored b ∙ e))
-    (λ e. c.if-checked-ne0.true (stored b ∙ e))
+pub returns-in-Err : goal.returns-in-Err
+unfolding held_of
+returns-in-Err c =
+    let b = (goal.at.returns-in-Err c).Else-not-sizes_held in
+    let n = number_of c.in-Err.refusal in
+    c.of_state.ensures
+    ∙ refused-state (x b) (rows b) (relations b) n (hold b) (number-nonzero c.in-Err.refusal) c.in-Err.ensures (eqb n 1) refl
 
 pub from_zero-order-requires : goal.from_zero-order-requires
 unfolding held_of
 from_zero-order-requires c =
-    let b = checked (goal.at.from_zero-order-requires c).Else-checked-ne0 in
+    let b = checked (goal.at.from_zero-order-requires c).In-Ok in
     (held-few (x b) (bounds b), held-positive (x b) (bounds b))
 
 pub pivots_right-requires : goal.pivots_right-requires
 unfolding held_of the_columns_of
 pivots_right-requires c =
-    let b = checked (goal.at.pivots_right-requires c).Else-checked-ne0 in (
+    let b = checked (goal.at.pivots_right-requires c).In-Ok in (
       held-few (x b) (bounds b),
-      held-room (x b) (bounds b) (rows b) (relations b) (none (goal.at.pivots_right-requires c).Else-checked-ne0),
+      held-room (x b) (bounds b) (rows b) (relations b) (none (goal.at.pivots_right-requires c).In-Ok),
       rw c.from_zero-order.ensures.0 (held-columns (x b) (bounds b)),
     )
 
 pub returns-then-not-pivots_right : goal.returns-then-not-pivots_right
 returns-then-not-pivots_right c =
-    let failed : c.pivots_right.result ≡ false = search rules in
-    sym (ap (λ t. cond {A = ℕ} t 0 11) failed) ∙ told (goal.at.returns-then-not-pivots_right c).After-pivots_right
+    sym (ap (λ t. cond {A = ℕ} t 0 11) c.if-not-pivots_right.true) ∙ told (goal.at.returns-then-not-pivots_right c).After-pivots_right
 
 pub returns : goal.returns
 returns c =
-    let passed : c.pivots_right.result ≡ true = search rules in
-    sym (ap (λ t. cond {A = ℕ} t 0 11) passed) ∙ told (goal.at.returns c).After-pivots_right
+    sym (ap (λ t. cond {A = ℕ} t 0 11) c.if-not-pivots_right.false) ∙ told (goal.at.returns c).After-pivots_right

@@ -46,7 +46,7 @@ module _ (c : After-first_met) where
 
 pub loop-j-init : goal.loop-j-init
 unfolding pivots_right_of
-loop-j-init c = (omega arith, (omega arith, refl))
+loop-j-init c = (omega arith, refl)
 
 pub row_at-row-requires : goal.row_at-row-requires
 unfolding row_need
@@ -63,9 +63,9 @@ loop-j-preserved c =
     let after = (goal.at.loop-j-preserved c).After-first_met in
     let inv = (at after).loop-j.invariant in
     let passed = sym (tested after) ∙ eq-eqb _ _ c.if-first_met-j.false in
-    (inv.0, (omega arith, pivots-next (order after) (rows after) (j after) inv.1.1 passed))
+    (inv.0, pivots-next (order after) (rows after) (j after) inv.1 passed)
 
 pub returns : goal.returns
 returns c =
     let all : c.loop-j.j ≡ c.args.settled = omega arith in
-    sym (rw all at c.loop-j.invariant.1.1)
+    sym (rw all at c.loop-j.invariant.1)

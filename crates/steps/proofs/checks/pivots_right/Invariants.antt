@@ -2,7 +2,6 @@
 -- Assumes nothing.
 use mathlib.Core.Path.{◌≡◌}
 use mathlib.Core.Bool.{true}
-use Prim.Native.Nat.{◌-◌, ◌≤◌}
 use lib.ListN.{length}
 use Rattle.rules.specs.Stores.{rows_of}
 use Rattle.rules.specs.Limits.{column_count}
@@ -11,7 +10,4 @@ use Rattle.steps.proofs.checks.pivots_right.Given as goal
 
 abbrev pub invariant-loop-j : goal.invariant-loop-j
 invariant-loop-j l =
-    (length l.order ≡ column_count) × ((l.j ≤ l.settled) × (pivots_right_of l.order (rows_of l.settled l.rows) l.j ≡ true))
-
-abbrev pub decreases-loop-j : goal.decreases-loop-j
-decreases-loop-j l = l.settled - l.j
+    (length l.order ≡ column_count) × (pivots_right_of l.order (rows_of l.settled l.rows) l.j ≡ true)

@@ -1,13 +1,9 @@
 -- `steps::moving::take_steps` meets its contract. The loop's invariant: the steps that were taken lead from the first state to
 -- that which the stores hold.
 -- Assumes nothing.
-use Prim.Native.Nat.{◌-◌, ◌≤◌}
 use Rattle.steps.specs.Moving.{Moving}
 use Rattle.steps.proofs.moving.take_steps.Given as goal
 
 abbrev pub invariant-loop-taken : goal.invariant-loop-taken
 invariant-loop-taken l =
-    Moving l.initial.p l.initial.rows l.initial.relations l.rows l.relations l.p l.taken × (l.taken ≤ l.budget)
-
-abbrev pub decreases-loop-taken : goal.decreases-loop-taken
-decreases-loop-taken l = l.budget - l.taken
+    Moving l.initial.p l.initial.rows l.initial.relations l.rows l.relations l.p l.taken

@@ -1,51 +1,20 @@
--- `stores::checks::all_small` meets its contract. The loop's invariant: the first i numbers are within ±C.
+-- `stores::checks::all_small` meets its contract: the iterator's test of all is `every`.
 -- Assumes nothing.
-use mathlib.Core.Path.{◌≡◌, sym, ◌∙◌, ap}
-use mathlib.Core.List.{List}
-use Prim.Native.Nat.{ℕ}
-use native.Mathlib.Omega.{arith}
-use borrow.Author.Rules.{rules}
-use lib.IntN.{ℤ, pos}
-use lib.ListN.{get_or}
-use lib.Seq.{take_all}
-use mir.Syntax.{w64}
-use mir.Val.{SFits}
-use mir.Facts.{to_z-of_z}
+use Rattle.std.proofs.Common.{◌≡◌, refl, ◌∙◌, ap, rules, Bool, ◌&&◌, List, [], ◌∷◌}
+use Rattle.std.specs.List.{list_all}
+use Rattle.std.proofs.lemmas.Iterator.{YieldsList-from_slice}
+use Rattle.std.proofs.lemmas.Iterator.Search.{all_from_yields_List}
 use Rattle.rules.specs.Limits.{small}
-use Rattle.lists.specs.Tests.{every, every-longer, every-false}
+use Rattle.lists.specs.Tests.{every}
 use Rattle.stores.proofs.checks.all_small.Goals as goal
-use Rattle.stores.proofs.checks.all_small.Goals.{After-within_bound}
 
--- the test of number i
-module _ (c : After-within_bound) where
-  abbrev numbers : List ℤ
-  numbers = c.args.numbers.now
-
-  abbrev i : ℕ
-  i = c.loop-i.i
-
-  tested : c.within_bound.result ≡ small (get_or numbers i (pos 0))
-  tested =
-      let read : SFits w64 (get_or numbers i (pos 0)) = search rules in
-      c.within_bound.ensures ∙ ap small (to_z-of_z read)
-
-pub loop-i-init : goal.loop-i-init
+every_all : {A : Type 0} (t : A → Bool) (l : List A) → list_all t l ≡ every t l
 unfolding every
-loop-i-init c = search rules
-
-pub returns-then-not-within_bound : goal.returns-then-not-within_bound
-returns-then-not-within_bound c =
-    let failed = sym (tested c.before) ∙ c.if-not-within_bound.true in
-    sym (every-false small (numbers c.before) (i c.before) (pos 0) c.loop-i-test.true failed)
-
-pub loop-i-preserved : goal.loop-i-preserved
-loop-i-preserved c =
-    let passed = c.loop-i.invariant.1 in
-    let here = sym (tested c.before) ∙ c.if-not-within_bound.false in
-    let inside = c.loop-i-test.true in
-    (omega arith, every-longer small (numbers c.before) (i c.before) (pos 0) inside passed here)
+every_all t [] = refl
+every_all t (x ∷ l) = ap (λ b. t x && b) (every_all t l)
 
 pub returns : goal.returns
 returns c =
-    let numbers = c.args.numbers.now in
-    sym (ap (every small) (sym (take_all c.loop-i.i numbers c.loop-i-test.false)) ∙ c.loop-i.invariant.1)
+    all_from_yields_List small c.all.new.self _ c.all.result c.all.ensures.ran (YieldsList-from_slice c.args.numbers.now c.iter.ensures.rest)
+    (λ x b q k. search rules)
+    ∙ every_all small c.args.numbers.now

@@ -2,13 +2,9 @@
 -- Assumes nothing.
 use mathlib.Core.Path.{◌≡◌}
 use mathlib.Core.Bool.{true}
-use Prim.Native.Nat.{ℕ, ◌-◌, ◌≤◌, ◌<◌}
-use Rattle.rules.specs.Limits.{polynomial_count}
+use Prim.Native.Nat.{ℕ, ◌<◌}
 use Rattle.stores.specs.Checks.{place_right_of}
 use Rattle.stores.proofs.checks.row_right.Given as goal
 
 abbrev pub invariant-loop-place : goal.invariant-loop-place
-invariant-loop-place l = (l.place ≤ polynomial_count) × ((q : ℕ) → q < l.place → place_right_of l.m l.span l.row q ≡ true)
-
-abbrev pub decreases-loop-place : goal.decreases-loop-place
-decreases-loop-place l = polynomial_count - l.place
+invariant-loop-place l = (q : ℕ) → q < l.place → place_right_of l.m l.span l.row q ≡ true

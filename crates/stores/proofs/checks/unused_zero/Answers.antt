@@ -1,41 +1,46 @@
--- `stores::checks::unused_zero` meets its contract. The loop's invariant: the numbers from i on tell whether all are zero.
+-- `stores::checks::unused_zero` meets its contract: all is zero where each block of 64 numbers is, and the rest.
 -- Assumes nothing.
-use mathlib.Core.Path.{◌≡◌, sym, ◌∙◌, ap}
-use mathlib.Core.Bool.{Bool, true, false, ◌&&◌}
-use mathlib.Core.List.{List}
-use Prim.Native.Nat.{ℕ, ◌+◌, ◌-◌}
-use native.Mathlib.Nat.{le_of_eq}
-use native.Mathlib.Omega.{arith}
-use lib.IntN.{ℤ}
-use lib.ListN.{take, drop, length-drop}
-use lib.Seq.{take_all}
-use Rattle.algebra.specs.Polynomials.{is_zero_of}
-use Rattle.stores.specs.Flat.{is_zero-split}
+use Rattle.std.proofs.Common.{◌≡◌, refl, sym, ◌∙◌, ap, rules, ℕ, zero, suc, ◌+◌, ◌*◌, ◌/◌, ◌&&◌, List, ℤ, length, take, drop, take-append-drop, take-add, arith}
+use Rattle.std.specs.List.{list_all}
+use Rattle.std.specs.Simd.{first_chunks}
+use Rattle.std.proofs.lemmas.Iterator.{YieldsList-from_slice}
+use Rattle.std.proofs.lemmas.Iterator.Search.{all_from_yields_List}
+use Rattle.algebra.specs.Polynomials.{is_zero_of, is_zero-append}
+use Rattle.lists.specs.Tests.{and_second, and_first}
 use Rattle.stores.proofs.checks.unused_zero.Goals as goal
-use Rattle.stores.proofs.checks.unused_zero.Goals.{After-all_zero}
+use Rattle.stores.proofs.checks.unused_zero.Goals.{After-all}
 
--- the test of 64 numbers
-module _ (c : After-all_zero) where
+chunks-zero : (k : ℕ) (l : List ℤ) → list_all is_zero_of (first_chunks 64 k l) ≡ is_zero_of (take (k * 64) l)
+unfolding is_zero_of
+chunks-zero zero l = refl
+chunks-zero (suc k) l =
+    let whole : suc k * 64 ≡ 64 + k * 64 = omega arith in
+    ap (λ b. is_zero_of (take 64 l) && b) (chunks-zero k (drop 64 l))
+    ∙ sym (ap (λ n. is_zero_of (take n l)) whole ∙ ap is_zero_of (take-add 64 (k * 64) l)
+    ∙ is_zero-append (take 64 l) (take (k * 64) (drop 64 l)))
+
+parted : (n : ℕ) (l : List ℤ) → is_zero_of l ≡ (is_zero_of (take n l) && is_zero_of (drop n l))
+parted n l = ap is_zero_of (sym (take-append-drop n l)) ∙ is_zero-append (take n l) (drop n l)
+
+module _ (c : After-all) where
   abbrev numbers : List ℤ
   numbers = c.args.numbers.now
 
-  abbrev i : ℕ
-  i = c.loop-i.i
+  blocks : c.all.result ≡ is_zero_of (take (length numbers / 64 * 64) numbers)
+  blocks =
+      all_from_yields_List is_zero_of c.all.new.self _ c.all.result c.all.ensures.ran (YieldsList-from_slice _ c.iter.ensures.rest)
+      (λ x b q k. search rules)
+      ∙ ap (list_all is_zero_of) c.as_chunks.ensures.front ∙ chunks-zero (length numbers / 64) numbers
 
-  tested : (t : Bool) → c.all_zero.result ≡ t → is_zero_of numbers ≡ (t && is_zero_of (drop (i + 64) numbers))
-  tested t e =
-      let size : i + 64 - i ≡ 64 = omega arith in
-      let passed = ap (λ n. is_zero_of (take n (drop i numbers))) (sym size) ∙ sym c.all_zero.ensures ∙ e in
-      c.loop-i.invariant.1 ∙ is_zero-split 64 i numbers ∙ ap (λ b. b && is_zero_of (drop (i + 64) numbers)) passed
+pub returns-then-all : goal.returns-then-all
+returns-then-all c =
+    let d = (goal.at.returns-then-all c).After-all in
+    let n = numbers d in
+    c.all_zero.ensures ∙ ap is_zero_of c.as_chunks.ensures.back
+    ∙ and_second _ _ (sym (blocks d) ∙ c.if-all.true) ∙ sym (parted (length n / 64 * 64) n)
 
-pub returns-then-not-all_zero : goal.returns-then-not-all_zero
-returns-then-not-all_zero c = sym (tested c.before false (c.if-not-all_zero.true))
-
-pub loop-i-preserved : goal.loop-i-preserved
-loop-i-preserved c = (omega arith, tested c.before true (c.if-not-all_zero.false))
-
-pub returns : goal.returns
-returns c =
-    let rest = drop c.loop-i.i c.args.numbers.now in
-    c.all_zero-2.ensures ∙ ap is_zero_of (take_all _ rest (le_of_eq (length-drop c.loop-i.i c.args.numbers.now)))
-    ∙ sym c.loop-i.invariant.1
+pub returns-else-all : goal.returns-else-all
+returns-else-all c =
+    let d = (goal.at.returns-else-all c).After-all in
+    let n = numbers d in
+    blocks d ∙ and_first _ _ (sym (blocks d) ∙ c.if-all.false) ∙ sym (parted (length n / 64 * 64) n)

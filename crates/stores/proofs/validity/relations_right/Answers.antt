@@ -4,7 +4,6 @@ use mathlib.Core.Path.{◌≡◌, sym, ◌∙◌, ap}
 use mathlib.Core.Bool.{Bool}
 use mathlib.Core.List.{List, []}
 use Prim.Native.Nat.{◌<◌}
-use native.Mathlib.Omega.{arith}
 use borrow.Author.Rules.{rules}
 use lib.ListN.{length, take, get_or}
 use lib.Seq.{take_all}
@@ -57,7 +56,7 @@ returns-then-not-relation_right c =
 pub loop-k-preserved : goal.loop-k-preserved
 loop-k-preserved c =
     let here = sym (tested c.before) ∙ c.if-not-relation_right.false in
-    (omega arith, every-longer _ _ _ (relation_of []) (inside c.before) (at c.before).loop-k.invariant.1 here)
+    every-longer _ _ _ (relation_of []) (inside c.before) (at c.before).loop-k.invariant here
 
 pub returns : goal.returns
 returns c =
@@ -65,4 +64,4 @@ returns c =
     let relations = relations_of args.count args.store.now in
     let all : take c.loop-k.k relations ≡ relations =
     take_all c.loop-k.k relations (rw length-relations_of c.loop-k-test.false) in
-    sym (ap (λ t. every t relations) (right c.before.before) ∙ ap (every _) (sym all) ∙ c.loop-k.invariant.1)
+    sym (ap (λ t. every t relations) (right c.before.before) ∙ ap (every _) (sym all) ∙ c.loop-k.invariant)

@@ -2,7 +2,6 @@
 -- Assumes nothing.
 use mathlib.Core.Path.{◌≡◌}
 use mathlib.Core.Bool.{true}
-use Prim.Native.Nat.{◌-◌, ◌≤◌}
 use lib.ListN.{take}
 use Rattle.lists.specs.Tests.{every}
 use Rattle.rules.specs.Stores.{relations_of}
@@ -10,7 +9,4 @@ use Rattle.stores.specs.Validity.{relation_test}
 use Rattle.stores.proofs.validity.relations_right.Given as goal
 
 abbrev pub invariant-loop-k : goal.invariant-loop-k
-invariant-loop-k l = (l.k ≤ l.count) × (every (relation_test l.m l.d) (take l.k (relations_of l.count l.store)) ≡ true)
-
-abbrev pub decreases-loop-k : goal.decreases-loop-k
-decreases-loop-k l = l.count - l.k
+invariant-loop-k l = every (relation_test l.m l.d) (take l.k (relations_of l.count l.store)) ≡ true

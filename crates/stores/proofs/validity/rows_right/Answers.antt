@@ -4,7 +4,6 @@ use mathlib.Core.Path.{◌≡◌, sym, ◌∙◌, ap}
 use mathlib.Core.Bool.{Bool}
 use mathlib.Core.List.{List}
 use Prim.Native.Nat.{◌<◌}
-use native.Mathlib.Omega.{arith}
 use borrow.Author.Rules.{rules}
 use lib.ListN.{length, take, get_or}
 use lib.Seq.{take_all}
@@ -68,11 +67,11 @@ returns-then-not-row_right c =
 pub loop-i-preserved : goal.loop-i-preserved
 loop-i-preserved c =
     let here = sym (tested c.before) ∙ c.if-not-row_right.false in
-    (omega arith, every-longer _ _ _ no_row (inside c.before) (at c.before).loop-i.invariant.1 here)
+    every-longer _ _ _ no_row (inside c.before) (at c.before).loop-i.invariant here
 
 pub returns : goal.returns
 returns c =
     let args = c.args in
     let rows = rows_of args.equations args.store.now in
     let all : take c.loop-i.i rows ≡ rows = take_all c.loop-i.i rows (rw length-rows_of c.loop-i-test.false) in
-    sym (ap (λ t. every t rows) (right c.before.before) ∙ ap (every _) (sym all) ∙ c.loop-i.invariant.1)
+    sym (ap (λ t. every t rows) (right c.before.before) ∙ ap (every _) (sym all) ∙ c.loop-i.invariant)

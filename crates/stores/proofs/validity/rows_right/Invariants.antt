@@ -2,7 +2,6 @@
 -- Assumes nothing.
 use mathlib.Core.Path.{◌≡◌}
 use mathlib.Core.Bool.{true}
-use Prim.Native.Nat.{◌-◌, ◌≤◌}
 use lib.ListN.{take}
 use Rattle.lists.specs.Tests.{every}
 use Rattle.rules.specs.Stores.{rows_of}
@@ -10,7 +9,4 @@ use Rattle.stores.specs.Validity.{row_test}
 use Rattle.stores.proofs.validity.rows_right.Given as goal
 
 abbrev pub invariant-loop-i : goal.invariant-loop-i
-invariant-loop-i l = (l.i ≤ l.equations) × (every (row_test l.m l.d) (take l.i (rows_of l.equations l.store)) ≡ true)
-
-abbrev pub decreases-loop-i : goal.decreases-loop-i
-decreases-loop-i l = l.equations - l.i
+invariant-loop-i l = every (row_test l.m l.d) (take l.i (rows_of l.equations l.store)) ≡ true

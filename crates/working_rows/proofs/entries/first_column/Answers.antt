@@ -3,7 +3,9 @@
 use mathlib.Core.Path.{◌≡◌, sym, ap}
 use Prim.Native.Nat.{◌<◌}
 use native.Mathlib.Omega.{arith}
-use borrow.Author.Rules.{rules, sfits_of}
+use borrow.Author.Rules.{rules}
+use mir.Syntax.{w64}
+use mir.Val.{SFits}
 use lib.IntN.{pos}
 use lib.ListN.{length, get_or}
 use Rattle.algebra.specs.Polynomials.{is_zero_of}
@@ -20,7 +22,8 @@ pub loop-i-preserved : goal.loop-i-preserved
 loop-i-preserved c =
     let row = c.args.entries.now in
     let i = c.loop-i.i in
-    let zero : get_or row i (pos 0) ≡ pos 0 = zero_bits (sfits_of c.t8-1.given) c.if-entries-i-ne0.false in
+    let read : SFits w64 (get_or row i (pos 0)) = search rules in
+    let zero : get_or row i (pos 0) ≡ pos 0 = zero_bits read c.if-entries-i-ne0.false in
     let inside : i < length row = omega arith in
     (omega arith, is_zero-longer row i inside c.loop-i.invariant.1 zero)
 

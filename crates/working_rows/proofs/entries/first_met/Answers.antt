@@ -1,12 +1,12 @@
 -- `working_rows::entries::first_met` meets its contract. The loop's invariant: the leading entries at the first j columns of the order are zero.
 -- Assumes nothing.
-use mathlib.Core.Path.{◌≡◌, refl, sym, ◌∙◌, ap}
+use mathlib.Core.Path.{◌≡◌, refl, sym, ◌∙◌, ap, subst}
 use mathlib.Core.List.{List, []}
 use Prim.Native.Nat.{ℕ, ◌+◌, ◌*◌, ◌-◌, ◌≤◌, ◌<◌}
 use native.Mathlib.Omega.{arith}
 use lib.IntN.{ℤ}
 use lib.ListN.{length, take, drop, get_or}
-use lib.Seq.{take_all}
+use lib.Seq.{take_all, length-take-le, get_or-take}
 use Rattle.algebra.specs.Polynomials.{Polynomial, is_zero_of}
 use Rattle.rules.specs.Limits.{coefficient_count, column_count}
 use Rattle.lists.specs.Tests.{every, every-longer}
@@ -20,10 +20,16 @@ use Rattle.working_rows.proofs.entries.first_met.Goals.{After-is_zero, In-loop-j
 -- column j of the order
 module _ (c : In-loop-j) where
   abbrev column : ℕ
-  column = get_or c.args.order c.loop-j.j 0
+  column = get_or (take c.args.settled c.args.order) c.loop-j.j 0
+
+  left : c.loop-j.j < c.args.settled
+  left = omega (arith, length-take-le c.args.settled c.args.order (omega arith))
+
+  column-is : column ≡ get_or c.args.order c.loop-j.j 0
+  column-is = get_or-take c.args.settled c.args.order c.loop-j.j 0 left
 
   below : column < column_count
-  below = Columns-at c.args.order c.requires.2 c.loop-j.j
+  below = subst (λ n. n < column_count) (sym column-is) (Columns-at c.args.order c.requires.2 c.loop-j.j)
 
 -- the test of the leading entry there
 module _ (c : After-is_zero) where
@@ -42,57 +48,51 @@ module _ (c : After-is_zero) where
   enough : settled ≤ length order
   enough = omega arith
 
+  abbrev here : In-loop-j
+  here = (goal.at.After-is_zero c).In-loop-j
+
   abbrev j : ℕ
   j = c.loop-j.j
 
   inside : j < length entries
-  inside = rw (length-entries_at (row_of numbers) order settled enough) c.loop-j-test.true
+  inside = rw (length-entries_at (row_of numbers) order settled enough) (left here)
 
   tested : c.is_zero.result ≡ is_zero_of (get_or entries j [])
   tested =
-      let here = column c.before.before in
-      let entry_here = get_or-entries_at (row_of numbers) order settled j enough c.loop-j-test.true in
-      let size : here * coefficient_count + coefficient_count - here * coefficient_count ≡ coefficient_count = omega arith in
-      c.is_zero.ensures ∙ ap (λ n. is_zero_of (take n (drop (here * coefficient_count) numbers))) size
-      ∙ sym (ap is_zero_of (entry_here ∙ entry_at numbers here (below c.before.before)))
+      let k = column here in
+      let entry_here = get_or-entries_at (row_of numbers) order settled j enough (left here) in
+      let size : k * coefficient_count + coefficient_count - k * coefficient_count ≡ coefficient_count = omega arith in
+      c.is_zero.ensures ∙ ap (λ n. is_zero_of (take n (drop (k * coefficient_count) numbers))) size
+      ∙ ap (λ m. is_zero_of (take coefficient_count (drop (m * coefficient_count) numbers))) (column-is here)
+      ∙ sym (ap is_zero_of (entry_here ∙ entry_at numbers (get_or order j 0) (Columns-at order c.requires.2 j)))
 
 pub loop-j-init : goal.loop-j-init
 unfolding every
-loop-j-init c = (omega arith, (omega arith, (omega arith, refl)))
+loop-j-init c = refl
 
 pub overflow_mul-from : goal.overflow_mul-from
-overflow_mul-from c = omega (arith, below c)
+overflow_mul-from c = omega (arith, below (goal.at.overflow_mul-from c).In-loop-j)
 
 pub overflow_add-to : goal.overflow_add-to
-overflow_add-to c = omega (arith, below c)
+overflow_add-to c = omega (arith, below (goal.at.overflow_add-to c).In-loop-j)
 
 pub offset_bounds-entries-from : goal.offset_bounds-entries-from
-offset_bounds-entries-from c = omega (arith, below c)
+offset_bounds-entries-from c = omega (arith, below (goal.at.offset_bounds-entries-from c).In-loop-j)
 
 pub slice_bounds-is_zero-end : goal.slice_bounds-is_zero-end
-slice_bounds-is_zero-end c = omega (arith, below c)
+slice_bounds-is_zero-end c = omega (arith, below (goal.at.slice_bounds-is_zero-end c).In-loop-j)
 
 pub returns-then-not-is_zero : goal.returns-then-not-is_zero
 unfolding found_or
 returns-then-not-is_zero c =
-    let args = c.args in
-    let nonzero = sym (tested c.before) ∙ c.if-not-is_zero.true in
-    let passed = c.loop-j.invariant.1.1.1 in
-    sym (ap (found_or args.settled) (first_nonzero-some (entries c.before) (j c.before) (inside c.before) passed nonzero))
+    let t = (goal.at.returns-then-not-is_zero c).After-is_zero in
+    let nonzero = sym (tested t) ∙ c.if-not-is_zero.true in
+    sym (ap (found_or c.args.settled) (first_nonzero-some (entries t) (j t) (inside t) c.loop-j.invariant nonzero))
 
 pub loop-j-preserved : goal.loop-j-preserved
 loop-j-preserved c =
-    let entries = entries c.before in
-    let zero = sym (tested c.before) ∙ c.if-not-is_zero.false in (
-      omega arith,
-      (
-        omega arith,
-        (
-          omega arith,
-          every-longer is_zero_of entries (j c.before) [] (inside c.before) c.loop-j.invariant.1.1.1 zero,
-        ),
-      ),
-    )
+    let t = (goal.at.loop-j-preserved c).After-is_zero in
+    every-longer is_zero_of (entries t) (j t) [] (inside t) c.loop-j.invariant (sym (tested t) ∙ c.if-not-is_zero.false)
 
 pub returns : goal.returns
 unfolding found_or
@@ -100,5 +100,6 @@ returns c =
     let args = c.args in
     let entries = entries_at (row_of args.entries.now) args.order args.settled in
     let size : length entries ≡ args.settled = length-entries_at (row_of args.entries.now) args.order args.settled (omega arith) in
-    let passed = ap (every is_zero_of) (sym (take_all c.loop-j.j entries (omega arith))) ∙ c.loop-j.invariant.1.1.1 in
+    let taken : length (take args.settled args.order) ≡ args.settled = length-take-le args.settled args.order (omega arith) in
+    let passed = ap (every is_zero_of) (sym (take_all c.loop-j.j entries (omega arith))) ∙ c.loop-j.invariant in
     sym (ap (found_or args.settled) (first_nonzero-none entries passed))

@@ -2,19 +2,12 @@
 -- Assumes nothing.
 use mathlib.Core.Path.{◌≡◌}
 use mathlib.Core.Bool.{true}
-use Prim.Native.Nat.{◌-◌, ◌≤◌}
-use lib.ListN.{length, take}
+use lib.ListN.{take}
 use Rattle.algebra.specs.Polynomials.{is_zero_of}
-use Rattle.rules.specs.Limits.{entries_length, column_count}
 use Rattle.lists.specs.Tests.{every}
 use Rattle.rules.specs.Stores.{row_of}
 use Rattle.working_rows.specs.Found.{entries_at}
 use Rattle.working_rows.proofs.entries.first_met.Given as goal
 
 abbrev pub invariant-loop-j : goal.invariant-loop-j
-invariant-loop-j l =
-    (length l.entries ≡ entries_length)
-    × ((length l.order ≡ column_count) × ((l.j ≤ l.settled) × (every is_zero_of (take l.j (entries_at (row_of l.entries) l.order l.settled)) ≡ true)))
-
-abbrev pub decreases-loop-j : goal.decreases-loop-j
-decreases-loop-j l = l.settled - l.j
+invariant-loop-j l = every is_zero_of (take l.j (entries_at (row_of l.entries) l.fn.order l.settled)) ≡ true

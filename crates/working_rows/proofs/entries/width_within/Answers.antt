@@ -2,7 +2,8 @@
 -- Assumes nothing.
 use mathlib.Core.Path.{◌≡◌, sym, ◌∙◌, ap}
 use mathlib.Core.List.{List, []}
-use Prim.Native.Nat.{ℕ, suc, ◌*◌, ◌-◌, ◌<◌}
+use Prim.Native.Nat.{ℕ, suc, ◌+◌, ◌*◌, ◌-◌, ◌<◌}
+use native.Mathlib.Numerals.{add-one}
 use native.Mathlib.Omega.{arith}
 use lib.IntN.{ℤ}
 use lib.ListN.{length, take, drop, get_or}
@@ -21,42 +22,39 @@ module _ (c : After-zero_throughout) where
   numbers = c.args.entries.now
 
   abbrev left : ℕ
-  left = c.loop-blocks.blocks - 1
+  left = c.loop-block.block - 1
 
-  some_left : c.loop-blocks.blocks ≡ suc left
+  some_left : c.loop-block.block ≡ suc left
   some_left = omega arith
 
   tested : c.zero_throughout.result ≡ zero_block (get_or (row_of numbers).blocks left [])
   tested =
-      let size : suc left * block_length - left * block_length ≡ block_length = omega arith in
-      c.zero_throughout.ensures
-      ∙ ap (λ n. is_zero_of (take n (drop (left * block_length) numbers))) (ap (λ b. b * block_length - left * block_length) some_left ∙ size)
+      let size : left * block_length + block_length - left * block_length ≡ block_length = omega arith in
+      c.zero_throughout.ensures ∙ ap (λ n. is_zero_of (take n (drop (left * block_length) numbers))) size
       ∙ sym (zero_block-at numbers left (omega arith))
 
   down : width (row_of numbers) ≡ width_of (take (suc left) (row_of numbers).blocks)
-  down = c.loop-blocks.invariant.1.1 ∙ ap (λ b. width_of (take b (row_of numbers).blocks)) some_left
+  down = c.loop-block.invariant ∙ ap (λ b. width_of (take b (row_of numbers).blocks)) some_left
 
-pub loop-blocks-init : goal.loop-blocks-init
+pub loop-block-init : goal.loop-block-init
 unfolding width
-loop-blocks-init c =
-    let row = c.args.entries.now in
-    (c.requires.0, (c.requires.1, sym (width_of-within (row_of row).blocks c.args.most c.requires.2)))
+loop-block-init c = sym (width_of-within (row_of c.args.entries.now).blocks c.args.most c.requires.2)
 
 pub returns-then-not-zero_throughout : goal.returns-then-not-zero_throughout
 returns-then-not-zero_throughout c =
-    let blocks = (row_of (numbers c.before)).blocks in
-    let nonzero = sym (tested c.before) ∙ c.if-not-zero_throughout.true in
-    let inside : left c.before < length blocks = rw length-blocks (omega arith) in
-    some_left c.before ∙ sym (down c.before ∙ width_of-nonzero blocks (left c.before) inside nonzero)
+    let t = (goal.at.returns-then-not-zero_throughout c).After-zero_throughout in
+    let blocks = (row_of (numbers t)).blocks in
+    let nonzero = sym (tested t) ∙ c.if-not-zero_throughout.true in
+    let inside : left t < length blocks = rw length-blocks (omega arith) in
+    add-one (left t) ∙ sym (down t ∙ width_of-nonzero blocks (left t) inside nonzero)
 
-pub loop-blocks-preserved : goal.loop-blocks-preserved
-loop-blocks-preserved c =
-    let blocks = (row_of (numbers c.before)).blocks in
-    let zero = sym (tested c.before) ∙ c.if-not-zero_throughout.false in
-    (omega arith, (omega arith, down c.before ∙ width_of-zero blocks (left c.before) zero))
+pub loop-block-preserved : goal.loop-block-preserved
+loop-block-preserved c =
+    let t = (goal.at.loop-block-preserved c).After-zero_throughout in
+    down t ∙ width_of-zero (row_of (numbers t)).blocks (left t) (sym (tested t) ∙ c.if-not-zero_throughout.false)
 
 pub returns : goal.returns
 unfolding width_of
 returns c =
-    let none : c.loop-blocks.blocks ≡ 0 = omega arith in
-    sym (c.loop-blocks.invariant.1.1 ∙ ap (λ n. width_of (take n (row_of c.args.entries.now).blocks)) none)
+    let none : c.loop-block.block ≡ 0 = omega arith in
+    sym (c.loop-block.invariant ∙ ap (λ n. width_of (take n (row_of c.args.entries.now).blocks)) none)

@@ -25,13 +25,13 @@ module _ (c : Start) where
 pub returns-then-not-within : goal.returns-then-not-within
 unfolding refusal_of
 returns-then-not-within c =
-    let s = c.before.before in
+    let s = (goal.at.returns-then-not-within c).Start in
     let failed = limit-beyond (r s) (l s) (held s) (sym s.requires.2 ∙ c.if-not-within.true) in
-    (c.broken.ensures.0 ∙ sym (ap refusal_of failed), c.broken.ensures.1 ∙ sym (ap worked_row failed))
+    (sym (ap refusal_of failed), tt)
 
 pub returns : goal.returns
 unfolding refusal_of
 returns c =
-    let s = c.before in
+    let s = (goal.at.returns c).Start in
     let passed = limit-within (r s) (l s) (held s) (sym s.requires.2 ∙ c.if-not-within.false) in
     (sym (ap refusal_of passed), worked-held s.args.row s.requires.0 s.requires.1 ∙ sym (ap worked_row passed))

@@ -1,12 +1,7 @@
 -- `working_rows::mirroring::exchange` meets its contract. The loop's invariant: the first k numbers of each block have changed places.
 -- Assumes nothing.
-use Prim.Native.Nat.{◌-◌, ◌≤◌}
-use Rattle.rules.specs.Limits.{block_length}
 use Rattle.working_rows.specs.Mirroring.{Exchanged}
 use Rattle.working_rows.proofs.mirroring.exchange.Given as goal
 
 abbrev pub invariant-loop-k : goal.invariant-loop-k
-invariant-loop-k l = (l.k ≤ block_length) × Exchanged l.a l.b l.k l.initial.entries l.entries
-
-abbrev pub decreases-loop-k : goal.decreases-loop-k
-decreases-loop-k l = block_length - l.k
+invariant-loop-k l = Exchanged l.a l.b l.k l.initial.entries l.entries

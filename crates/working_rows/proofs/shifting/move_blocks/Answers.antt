@@ -56,7 +56,7 @@ module _ (c : In-loop-e) where
 
   p-is : p ≡ take coefficient_count (drop from row)
   p-is =
-      ap (λ l. take coefficient_count (drop from l)) looped.loop-e.invariant.2
+      ap (λ l. take coefficient_count (drop from l)) looped.loop-e.invariant.1
       ∙ ap (take coefficient_count) (over-behind full row (e * coefficient_count) (omega (arith, inside)) from (omega arith))
 
   p-shifted : shift p ≡ coefficients_at_of full e
@@ -67,12 +67,12 @@ module _ (c : In-loop-e) where
 
 pub loop-e-init : goal.loop-e-init
 unfolding every
-loop-e-init c = (omega arith, c.requires.1, refl, refl)
+loop-e-init c = (c.requires.1, refl, refl)
 
 pub put_moved-requires : goal.put_moved-requires
 put_moved-requires c =
     let d = c.before in
-    let long = (looped d).loop-e.invariant.1 in
+    let long = (looped d).loop-e.invariant.0 in
     let room = inside d in
     ((start d).requires.0, omega (arith, long, room, full-long d), omega (arith, long, (start d).requires.3, d.loop-e-test.true), p-within d)
 
@@ -82,14 +82,13 @@ loop-e-preserved c =
     let loop = (looped d).loop-e in
     let at = e d * coefficient_count in
     let written = c.put_moved.ensures.place_after
-    ∙ ap₂ (λ l q. paste l at q coefficient_count) loop.invariant.2 (p-shifted d)
+    ∙ ap₂ (λ l q. paste l at q coefficient_count) loop.invariant.1 (p-shifted d)
     ∙ over-next (full d) (row d) (e d) (inside d)
     in
     let within : every small (take ((e d + 1) * coefficient_count) (full d)) ≡ (loop.within && c.put_moved.result) =
     small-next (full d) (row d) (e d) (inside d)
-    ∙ ap₂ ◌&&◌ (sym loop.invariant.3) (ap (every small) (sym (p-shifted d)) ∙ sym c.put_moved.ensures.value)
+    ∙ ap₂ ◌&&◌ (sym loop.invariant.2) (ap (every small) (sym (p-shifted d)) ∙ sym c.put_moved.ensures.value)
     in (
-      omega arith,
       ap length written
           ∙ length_over (full d) (row d) ((e d + 1) * coefficient_count) (omega (arith, inside d))
           (omega (arith, inside d, full-long d, (start d).requires.1))
@@ -102,7 +101,7 @@ loop-e-preserved c =
     )
 
 pub shape_of-entries : goal.shape_of-entries
-shape_of-entries c = c.loop-e.invariant.1 ∙ sym c.requires.1
+shape_of-entries c = c.loop-e.invariant.0 ∙ sym c.requires.1
 
 pub returns : goal.returns
 returns c =
@@ -110,4 +109,4 @@ returns c =
     let l = c.args.entries.now in
     let full = left_part (shift_up (row_of l)) in
     let all : loop.e * coefficient_count ≡ c.args.blocks * block_length = omega arith in
-    record { entries_after = loop.invariant.2 ∙ ap (over_front full l) all; value = loop.invariant.3 ∙ ap (λ n. every small (take n full)) all }
+    record { entries_after = loop.invariant.1 ∙ ap (over_front full l) all; value = loop.invariant.2 ∙ ap (λ n. every small (take n full)) all }

@@ -2,7 +2,7 @@
 -- numbers past them are as they were, and `within` is the test of what is written.
 -- Assumes nothing.
 use mathlib.Core.Path.{◌≡◌}
-use Prim.Native.Nat.{◌*◌, ◌≤◌, ◌-◌}
+use Prim.Native.Nat.{◌*◌}
 use lib.ListN.{length, take}
 use Rattle.lists.specs.Tests.{every}
 use Rattle.rules.specs.Limits.{coefficient_count, entries_length, small}
@@ -14,9 +14,6 @@ use Rattle.working_rows.proofs.shifting.move_blocks.Given as goal
 
 abbrev pub invariant-loop-e : goal.invariant-loop-e
 invariant-loop-e l =
-    (l.e ≤ l.count) × (length l.entries ≡ entries_length)
+    (length l.entries ≡ entries_length)
     × (l.entries ≡ over_front (left_part (shift_up (row_of l.initial.entries))) l.initial.entries (l.e * coefficient_count))
     × (l.within ≡ every small (take (l.e * coefficient_count) (left_part (shift_up (row_of l.initial.entries)))))
-
-abbrev pub decreases-loop-e : goal.decreases-loop-e
-decreases-loop-e l = l.count - l.e

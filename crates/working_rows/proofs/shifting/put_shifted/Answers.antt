@@ -37,7 +37,6 @@ slice_bounds-front-end c = sym (length-take-le _ (p c) (few c))
 
 pub loop-k-init : goal.loop-k-init
 loop-k-init c = (
-  omega arith,
   record { within = omega arith; long = ap length c.requires.1 ∙ length-replicate coefficient_count (pos 0); front = refl },
   refl,
 )
@@ -54,23 +53,22 @@ shifted_coefficient-requires c =
 pub bounds-place-k : goal.bounds-place-k
 bounds-place-k c =
     let d = c.before.before.before in
-    omega (arith, c.loop-k.invariant.1.long, few d, d.requires.2, c.loop-k-test.true)
+    omega (arith, c.loop-k.invariant.0.long, few d, d.requires.2, c.loop-k-test.true)
 
 pub loop-k-preserved : goal.loop-k-preserved
 unfolding coeff
 loop-k-preserved c =
     let d = c.before.before.before in (
-      omega (arith, c.loop-k-test.true),
-      overwritten-next c.loop-k.invariant.1 (length_shift (p d) ∙ d.requires.2) (pos 0)
+      overwritten-next c.loop-k.invariant.0 (length_shift (p d) ∙ d.requires.2) (pos 0)
           (omega (arith, c.loop-k-test.true, few d, d.requires.2))
           (read_back _ c.shifted_coefficient.type_inv ∙ c.shifted_coefficient.ensures.value
           ∙ coeff-shift-front (p d) (d.degree-count.result + 1) c.loop-k.k (few d) (omega (arith, d.degree-count.ensures))),
-      suffix-next c.loop-k.place d.args.place.now c.loop-k.k _ c.loop-k.invariant.2,
+      suffix-next c.loop-k.place d.args.place.now c.loop-k.k _ c.loop-k.invariant.1,
     )
 
 pub shape_of-place : goal.shape_of-place
 shape_of-place c =
-    c.loop-k.invariant.1.long ∙ sym (ap length c.requires.1 ∙ length-replicate coefficient_count (pos 0))
+    c.loop-k.invariant.0.long ∙ sym (ap length c.requires.1 ∙ length-replicate coefficient_count (pos 0))
 
 pub returns : goal.returns
 returns c =
@@ -79,9 +77,9 @@ returns c =
     let l = shift (p d) in
     let long = length_shift (p d) ∙ d.requires.2 in
     let n = d.degree-count.result + 1 in
-    let all : loop.k ≡ n = omega (arith, loop.invariant.0, c.loop-k-test.false) in
+    let all : loop.k ≡ n = omega (arith, c.loop-k-test.false) in
     sym (take-append-drop loop.k loop.place)
-    ∙ ap₂ ◌++◌ loop.invariant.1.front loop.invariant.2
+    ∙ ap₂ ◌++◌ loop.invariant.0.front loop.invariant.1
     ∙ ap (λ k. take k l ++ drop k d.args.place.now) all
     ∙ front-over l d.args.place.now n (d.requires.1 ∙ ap (λ m. replicate m (pos 0)) (sym long))
     (omega (arith, long, few d, d.requires.2))

@@ -2,7 +2,6 @@
 -- are as they were.
 -- Assumes nothing.
 use mathlib.Core.Path.{◌≡◌}
-use Prim.Native.Nat.{◌-◌, ◌≤◌}
 use lib.ListN.{drop}
 use Rattle.algebra.specs.Polynomials.{shift}
 use Rattle.lists.specs.Taken.{Overwritten}
@@ -11,7 +10,4 @@ use Rattle.working_rows.proofs.shifting.put_shifted.Given as goal
 
 abbrev pub invariant-loop-k : goal.invariant-loop-k
 invariant-loop-k l =
-    (l.k ≤ l.count) × Overwritten coefficient_count (shift l.p) l.place l.k × (drop l.k l.place ≡ drop l.k l.initial.place)
-
-abbrev pub decreases-loop-k : goal.decreases-loop-k
-decreases-loop-k l = l.count - l.k
+    Overwritten coefficient_count (shift l.p) l.place l.k × (drop l.k l.place ≡ drop l.k l.initial.place)

@@ -22,10 +22,10 @@ use Rattle.rules.specs.Elimination.{limit_coefficients}
 use Rattle.working_rows.specs.declared.WorkingRow.{WorkingRow}
 use Rattle.working_rows.specs.Found.{width-most}
 use Rattle.working_rows.specs.Working.{left_part, numbers_held, Full, length-held, small-apart}
-use Rattle.working_rows.specs.Worked.{refusal_of, worked_row}
+use Rattle.working_rows.specs.Worked.{Shown}
 use Rattle.working_rows.specs.Shifting.{shifted-long, shifted-numbers, shifted-narrower, row_of-shifted, over-cleared, small-front}
 use Rattle.working_rows.proofs.shifting.shifted.Goals as goal
-use Rattle.working_rows.proofs.shifting.shifted.Goals.{After-clear, After-move_blocks-left_within, After-put_moved-right_within, Joined-width-gt0, Start, else-left_within, else-width-gt0, then-left_within, then-width-gt0}
+use Rattle.working_rows.proofs.shifting.shifted.Goals.{After-clear, After-move_blocks-left_within, After-put_moved-right_within, After-saturating_sub-last, Start, else-left_within, then-left_within}
 
 -- the row, its entries and its right side
 module _ (c : Start) where
@@ -51,19 +51,15 @@ module _ (c : Start) where
   whole-side = take_all coefficient_count s (le_of_eq size)
 
 -- the blocks that move up
-module _ (c : Joined-width-gt0) where
+module _ (c : After-saturating_sub-last) where
   abbrev start : Start
-  start = c.before.before
+  start = (goal.at.After-saturating_sub-last c).Start
 
   abbrev blocks : ℕ
-  blocks = c.if-width-gt0.last
+  blocks = c.saturating_sub-last.result
 
   narrower : blocks ≡ width (row_of (e start)) - 1
-  narrower =
-      elim c.if-width-gt0.branch [
-        | then-width-gt0 w ↦ w.last-is
-        | else-width-gt0 w ↦ w.last-is ∙ omega (arith, w.if-width-gt0.false)
-      ] ∙ ap (λ w. w - 1) start.requires.2
+  narrower = c.saturating_sub-last.ensures ∙ ap (λ w. w - 1) start.requires.2
 
   few : blocks < block_count
   few = omega (arith, width-most (e start), narrower)
@@ -71,10 +67,10 @@ module _ (c : Joined-width-gt0) where
 -- the shifted left part
 module _ (c : After-clear) where
   abbrev moved : After-move_blocks-left_within
-  moved = c.before.before.before.before
+  moved = (goal.at.After-clear c).After-move_blocks-left_within
 
-  abbrev chosen : Joined-width-gt0
-  chosen = moved.before.before.before.before.before
+  abbrev chosen : After-saturating_sub-last
+  chosen = (goal.at.After-move_blocks-left_within moved).After-saturating_sub-last
 
   left_is : c.clear.new.store ≡ left (start chosen)
   left_is =
@@ -86,9 +82,9 @@ module _ (c : After-clear) where
 -- the shifted row
 module _ (c : After-put_moved-right_within) where
   abbrev cleared : After-clear
-  cleared = c.before.before.before.before
+  cleared = (goal.at.After-put_moved-right_within c).After-clear
 
-  abbrev known : Joined-width-gt0
+  abbrev known : After-saturating_sub-last
   known = chosen cleared
 
   abbrev origin : Start
@@ -133,21 +129,21 @@ module _ (c : After-put_moved-right_within) where
 
 pub move_blocks-left_within-requires : goal.move_blocks-left_within-requires
 move_blocks-left_within-requires c =
-    let d = c.before.before.before.before in
+    let d = (goal.at.move_blocks-left_within-requires c).After-saturating_sub-last in
     let o = start d in
     (d.pascal-table.ensures, long o, (small-apart (row o) o.requires.1).0, omega (arith, few d))
 
 pub overflow_mul-last : goal.overflow_mul-last
-overflow_mul-last c = let h = few c.before.before.before.before.before.before.before.before in search rules
+overflow_mul-last c = let h = few (goal.at.overflow_mul-last c).After-saturating_sub-last in search rules
 
 pub clear-requires : goal.clear-requires
 clear-requires c =
-    let d = c.before.before.before.before.before.before.before.before in
+    let d = (goal.at.clear-requires c).After-saturating_sub-last in
     omega (arith, c.move_blocks-left_within.auto.entries, long (start d), few d)
 
 pub put_moved-right_within-requires : goal.put_moved-right_within-requires
 put_moved-right_within-requires c =
-    let d = chosen c.before.before.before in
+    let d = (goal.at.put_moved-right_within-requires c).After-saturating_sub-last in
     let o = start d in (
       d.pascal-table.ensures,
       le_of_eq (sym (size o)),
@@ -157,7 +153,7 @@ put_moved-right_within-requires c =
 
 pub limited-requires : goal.limited-requires
 limited-requires c =
-    let d = c.before.before in (
+    let d = (goal.at.limited-requires c).After-put_moved-right_within in (
       full d,
       wide d,
       elim c.if-left_within.branch [
@@ -167,5 +163,4 @@ limited-requires c =
     )
 
 pub returns : goal.returns
-returns c =
-    let d = c.before.before.before in record { refusal_value = c.limited.ensures.0 ∙ ap (λ r. refusal_of (limit_coefficients r)) (holds d); row_value = c.limited.ensures.1 ∙ ap (λ r. worked_row (limit_coefficients r)) (holds d) }
+returns c = subst (λ r. Shown c.limited.result (limit_coefficients r)) (holds (goal.at.returns c).After-put_moved-right_within) c.limited.ensures

@@ -38,7 +38,7 @@ module _ (c : In-loop-i) where
 
 pub loop-i-init : goal.loop-i-init
 unfolding most_in_records_of
-loop-i-init c = (omega arith, omega arith, omega arith)
+loop-i-init c = (omega arith, omega arith)
 
 pub overflow_mul-from : goal.overflow_mul-from
 overflow_mul-from c = omega (arith, early c)
@@ -86,7 +86,7 @@ loop-i-preserved c =
     let t = turn c in
     let next =
     total-parts-next (λ p. most_in_terms_of (drop (skip t) p)) (skip t + row_length) (records t) (store t) (i t) t.loop-i-test.true in
-    (omega arith, omega (arith, few c), omega (arith, found c, next))
+    (omega (arith, few c), omega (arith, found c, next))
 
 pub returns : goal.returns
 returns c =

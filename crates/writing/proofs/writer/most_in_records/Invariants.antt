@@ -2,7 +2,7 @@
 -- Assumes nothing.
 use mathlib.Core.Path.{◌≡◌}
 use mathlib.Core.List.{map}
-use Prim.Native.Nat.{◌+◌, ◌*◌, ◌-◌, ◌≤◌}
+use Prim.Native.Nat.{◌+◌, ◌*◌, ◌≤◌}
 use lib.ListN.{drop}
 use Rattle.lists.specs.Parts.{parts}
 use Rattle.lists.specs.Totals.{total}
@@ -12,9 +12,6 @@ use Rattle.writing.proofs.writer.most_in_records.Given as goal
 
 abbrev pub invariant-loop-i : goal.invariant-loop-i
 invariant-loop-i l =
-    (l.i ≤ l.records) × (l.numbers ≤ l.i * (polynomial_count * long_term))
+    (l.numbers ≤ l.i * (polynomial_count * long_term))
     × (l.numbers + total (drop l.i (map (λ p. most_in_terms_of (drop l.skip p)) (parts (l.skip + row_length) l.records l.store)))
     ≡ most_in_records_of l.skip l.records l.store)
-
-abbrev pub decreases-loop-i : goal.decreases-loop-i
-decreases-loop-i l = l.records - l.i

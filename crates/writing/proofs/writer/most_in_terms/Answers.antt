@@ -14,7 +14,7 @@ use Rattle.writing.proofs.writer.most_in_terms.Goals.{After-most_in_term-numbers
 
 pub loop-i-init : goal.loop-i-init
 unfolding most_in_terms_of
-loop-i-init c = (omega arith, omega arith, omega arith)
+loop-i-init c = (omega arith, omega arith)
 
 -- what polynomial i comes to
 module _ (c : After-most_in_term-numbers) where
@@ -41,7 +41,7 @@ overflow_add-numbers c = omega (arith, few c)
 pub loop-i-preserved : goal.loop-i-preserved
 loop-i-preserved c =
     let next = total-parts-next most_in_term_of coefficient_count polynomial_count (row c) (i c) (turn c).loop-i-test.true in
-    (omega arith, omega (arith, few c), omega (arith, found c, next))
+    (omega (arith, few c), omega (arith, found c, next))
 
 pub returns : goal.returns
 returns c =

@@ -18,7 +18,7 @@ use borrow.Author.Rules.{rules}
 use Rattle.writing.proofs.writer.put_block.Goals as goal
 
 pub loop-c-init : goal.loop-c-init
-loop-c-init c = (omega arith, going-first refl)
+loop-c-init c = going-first refl
 
 pub put_term-next-requires : goal.put_term-next-requires
 put_term-next-requires c =
@@ -38,19 +38,17 @@ loop-c-preserved c =
     let numbers = c.args.numbers.now in
     let k = c.loop-c.c in
     let s = to_z w64 (of_z w64 c.args.block) in
-    let width : k * coefficient_count + coefficient_count - k * coefficient_count ≡ coefficient_count = omega arith in (
-      omega arith,
-      going_next c.loop-c.invariant.1 (block-next s numbers k c.loop-c-test.true)
-          (put_same c.put_term-next.ensures
-          (ap (λ n. spaced (term_at_of s (k + 1) (take n (drop (k * coefficient_count) numbers)))) width))
-          (omega arith),
-    )
+    let width : k * coefficient_count + coefficient_count - k * coefficient_count ≡ coefficient_count = omega arith in
+    going_next c.loop-c.invariant (block-next s numbers k c.loop-c-test.true)
+    (put_same c.put_term-next.ensures
+    (ap (λ n. spaced (term_at_of s (k + 1) (take n (drop (k * coefficient_count) numbers)))) width))
+    (omega arith)
 
 pub returns : goal.returns
 returns c =
     let args = c.args in
     let block = to_z w64 (of_z w64 args.block) in
     let none = block-end block args.numbers.now c.loop-c.c c.loop-c-test.false in
-    put_same (going-last c.loop-c.invariant.1 none (omega arith))
+    put_same (going-last c.loop-c.invariant none (omega arith))
     (ap (λ s. spaced (numbers_of (block_terms_of s 1 (block_of args.numbers.now))))
     (to_z-of_z {w = w64} c.ranges.block))

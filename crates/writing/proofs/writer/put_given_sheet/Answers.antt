@@ -5,13 +5,15 @@ use mathlib.Core.List.{List, [], ◌∷◌, ◌++◌, map}
 use Prim.Native.Nat.{ℕ, suc, ◌+◌, ◌*◌, ◌^◌, ◌≤◌, ◌<◌}
 use native.Mathlib.Nat.{le_refl}
 use native.Mathlib.Omega.{arith}
-use borrow.Author.Rules.{rules, sfits_of}
-use lib.IntN.{ℤ, pos, nat_abs}
+use borrow.Author.Rules.{rules}
+use lib.IntN.{ℤ, pos}
 use lib.ListN.{length}
 use mir.Syntax.{w64}
 use mir.Val.{to_z, of_z}
 use mir.Facts.{to_z-of_z}
-use Rattle.rules.specs.Limits.{block_bound, row_length, relation_length, most_equations}
+use Rattle.integers.specs.Ranges.{sfits-size}
+use lib.Dec.{lit<}
+use Rattle.rules.specs.Limits.{row_length, relation_length, most_equations}
 use Rattle.rules.specs.Numbers.{line, lines}
 use Rattle.rules.specs.Sheets.{equation_numbers, relation_line, order_line, side_lines}
 use Rattle.rules.specs.Stores.{span, equations, rows_of, relations_of}
@@ -19,11 +21,12 @@ use Rattle.stores.specs.Validity.{the_sizes_of}
 use Rattle.number_texts.specs.Runs.{Put, put_same, put_then, put-few, put-wide, put-length}
 use Rattle.number_texts.specs.TextBytes.{count_bytes}
 use Rattle.writing.specs.LineLengths.{lines_length}
-use Rattle.writing.specs.SheetBytes.{sizes_bytes, equation_bytes, order_bytes}
+use Rattle.writing.specs.Records.{equation-lines}
+use Rattle.writing.specs.SheetBytes.{sizes_bytes, relation_bytes, order_bytes}
 use Rattle.writing.specs.Writer.{UnusedParts, sides_given, sheet-bytes}
 use Rattle.writing.proofs.writer.put_given_sheet.Goals as goal
 use Rattle.writing.proofs.writer.put_given_sheet.Goals.{After-put_count-after_count, After-put_count-after_number}
-use Rattle.writing.proofs.writer.put_given_sheet.Goals.{After-put_equations-after_rows, After-put_given-after_relations}
+use Rattle.writing.proofs.writer.put_given_sheet.Goals.{After-put_records-after_rows, After-put_given-after_relations}
 use Rattle.writing.proofs.writer.put_given_sheet.Goals.{After-put_order-after_order, After-put_sizes-after_sizes, After-span-blocks, Start}
 
 -- l, t and the number of blocks in use, as the calls read them
@@ -38,25 +41,23 @@ module _ (c : After-span-blocks) where
   t = start.args.sizes.t
 
   back_l : to_z w64 (of_z w64 l) ≡ l
-  back_l = to_z-of_z {w = w64} {z = l} (sfits_of c.struct_told-1.given.1.1.0.1)
+  unfolding the_sizes_of
+  back_l = to_z-of_z {w = w64} {z = l} (sfits-size l start.requires.checked.0.blocks (lit< tt))
 
   back-t : to_z w64 (of_z w64 t) ≡ t
-  back-t = to_z-of_z {w = w64} {z = t} (sfits_of c.struct_told-1.given.1.1.1.0.1)
-
-  small : nat_abs (to_z w64 (of_z w64 l)) ≤ block_bound
   unfolding the_sizes_of
-  small = rw back_l start.requires.checked.0.blocks
+  back-t = to_z-of_z {w = w64} {z = t} (sfits-size t start.requires.checked.0.low (lit< tt))
 
   blocks : suc (span (the_sizes_of start.args.sizes)) ≡ c.span-blocks.result + 1
   blocks = omega (arith, c.span-blocks.ensures)
 
 -- the lines up to the number of relations
 module _ (c : After-put_count-after_count) where
-  abbrev after-rows : After-put_equations-after_rows
-  after-rows = (goal.at.After-put_count-after_count c).After-put_equations-after_rows
+  abbrev after-rows : After-put_records-after_rows
+  after-rows = (goal.at.After-put_count-after_count c).After-put_records-after_rows
 
   abbrev after-number : After-put_count-after_number
-  after-number = (goal.at.After-put_equations-after_rows after-rows).After-put_count-after_number
+  after-number = (goal.at.After-put_records-after_rows after-rows).After-put_count-after_number
 
   abbrev after-sizes : After-put_sizes-after_sizes
   after-sizes = (goal.at.After-put_count-after_number after-number).After-put_sizes-after_sizes
@@ -71,12 +72,12 @@ module _ (c : After-put_count-after_count) where
   unfolding equations the_sizes_of
   few-rows = begun.requires.checked.0.few-rows
 
-  place : c.put_count-after_count.result ≤ sizes_bytes + (count_bytes + (most_equations * equation_bytes + count_bytes))
+  place : c.put_count-after_count.result ≤ sizes_bytes + (count_bytes + (most_equations * relation_bytes + count_bytes))
   place =
       let written =
       put_then after-sizes.put_sizes-after_sizes.ensures
       (put_then after-number.put_count-after_number.ensures
-      (put_then after-rows.put_equations-after_rows.ensures c.put_count-after_count.ensures)) in
+      (put_then after-rows.put_records-after_rows.ensures c.put_count-after_count.ensures)) in
       omega (arith, written.passed, written.few, few-rows)
 
   text : length begun.args.given.now < 2 ^ 63
@@ -113,7 +114,7 @@ module _ (c : After-put_order-after_order) where
   written =
       put_then (after-sizes after-count).put_sizes-after_sizes.ensures
       (put_then (after-number after-count).put_count-after_number.ensures
-      (put_then (put-few (after-rows after-count).put_equations-after_rows.ensures (le_refl _))
+      (put_then (put-few (put_same (after-rows after-count).put_records-after_rows.ensures (equation-lines _ _ _)) (le_refl _))
       (put_then after-count.put_count-after_count.ensures
       (put_then (put-few after-relations.put_given-after_relations.ensures (le_refl _)) c.put_order-after_order.ensures))))
 
@@ -133,18 +134,17 @@ put_sizes-after_sizes-requires c =
       rw (back-t told) ready.low,
     )
 
-pub put_equations-after_rows-requires : goal.put_equations-after_rows-requires
+pub put_records-after_rows-requires : goal.put_records-after_rows-requires
 unfolding equations the_sizes_of
-put_equations-after_rows-requires c =
-    let told = (goal.at.put_equations-after_rows-requires c).After-span-blocks in
+put_records-after_rows-requires c =
+    let told = (goal.at.put_records-after_rows-requires c).After-span-blocks in
     let ready = (start told).requires.checked.0 in
     let args = (start told).args in (
-      ready.few-rows,
+      search rules,
+      omega (arith, ready.few-rows),
       ready.rows,
-      small told,
       search rules,
       ready.row-numbers,
-      omega (arith, blocks told, ready.narrow),
       subst (λ n. UnusedParts args.sizes.m n 0 row_length args.sizes.equations args.rows.now) (blocks told) ready.row-unused,
     )
 
@@ -164,10 +164,8 @@ put_given-after_relations-requires c =
       count_le_most_relations = (
         ready.few,
         ready.relations,
-        small here,
         omega (arith, place after-count, text after-count),
         ready.relation-numbers,
-        omega (arith, blocks here, ready.narrow),
         subst (λ n. UnusedParts args.sizes.m n 1 relation_length args.count args.relations.now) (blocks here)
             ready.relation-unused,
       );
@@ -205,7 +203,7 @@ put_fifth-requires c =
         few-rows here,
         ready.few,
         text here,
-        (after-rows here).put_equations-after_rows.ensures.few,
+        (after-rows here).put_records-after_rows.ensures.few,
         (after-relations after-order).put_given-after_relations.ensures.few,
       );
     }
@@ -227,3 +225,9 @@ returns c =
     (ap₂ (λ l t. bytes after-order l t ++ sides) (back_l here) (back-t here)
     ∙ sheet-bytes (the_sizes_of args.sizes) args.count args.columns.now args.rows.now args.relations.now))
     (omega (arith, lengths))
+
+pub invariant_of-shape : goal.invariant_of-shape
+unfolding the_sizes_of
+invariant_of-shape c =
+    let told = (goal.at.invariant_of-shape c).After-span-blocks in
+    record { low = rw (back_l told) (start told).requires.checked.0.blocks; few = omega (arith, blocks told, (start told).requires.checked.0.narrow) }

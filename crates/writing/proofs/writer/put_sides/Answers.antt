@@ -47,7 +47,7 @@ module _ (c : In-loop-i) where
       (start.requires.4 i c.loop-i-test.true)
 
 pub loop-i-init : goal.loop-i-init
-loop-i-init c = (omega arith, going-first refl)
+loop-i-init c = going-first refl
 
 pub overflow_mul-from : goal.overflow_mul-from
 overflow_mul-from c = omega (arith, early c)
@@ -80,18 +80,16 @@ unfolding sides_in
 loop-i-preserved c =
     let turn = (goal.at.loop-i-preserved c).In-loop-i in
     let w = skip turn + coefficient_count in
-    let width : w ≡ i turn * w + w - i turn * w = omega arith in (
-      omega arith,
-      lines_next side_line (side_in (skip turn)) w (records turn) (store turn) (i turn) turn.loop-i.invariant.1
-          turn.loop-i-test.true
-          (put_same (put_same c.put_side-next.ensures
-          (ap (λ p. line (side_line p)) (side-at (skip turn) (store turn) (i turn))))
-          (ap (λ n. line (side_line (side_in (skip turn) (take n (drop (i turn * w) (store turn)))))) width)),
-    )
+    let width : w ≡ i turn * w + w - i turn * w = omega arith in
+    lines_next side_line (side_in (skip turn)) w (records turn) (store turn) (i turn) turn.loop-i.invariant
+    turn.loop-i-test.true
+    (put_same (put_same c.put_side-next.ensures
+    (ap (λ p. line (side_line p)) (side-at (skip turn) (store turn) (i turn))))
+    (ap (λ n. line (side_line (side_in (skip turn) (take n (drop (i turn * w) (store turn)))))) width))
 
 pub returns : goal.returns
 unfolding sides_in
 returns c =
     let args = c.args in
     lines-last side_line (side_in args.skip) (args.skip + coefficient_count) args.records args.store.now c.loop-i.i
-    c.loop-i.invariant.1 c.loop-i-test.false (omega arith)
+    c.loop-i.invariant c.loop-i-test.false (omega arith)

@@ -22,24 +22,24 @@ use Rattle.writing.specs.Writer.{numbers_of, block_size, lengths-part, terms-nex
 use Rattle.number_texts.specs.Texts.{spaced}
 use borrow.Author.Rules.{rules}
 use Rattle.writing.proofs.writer.put_terms.Goals as goal
-use Rattle.writing.proofs.writer.put_terms.Goals.{After-put_block-arg-in-loop-b-2-1, Start}
+use Rattle.writing.proofs.writer.put_terms.Goals.{In-loop-b, Start}
 
 -- the block that is written
-module _ (c : After-put_block-arg-in-loop-b-2-1) where
+module _ (c : In-loop-b) where
   abbrev start : Start
-  start = (goal.at.After-put_block-arg-in-loop-b-2-1 c).Start
+  start = (goal.at.In-loop-b c).Start
 
   abbrev b : ℕ
   b = c.loop-b.b
 
   abbrev l : ℤ
-  l = to_z w64 (of_z w64 start.args.l)
+  l = start.args.shape.l
 
   count : to_z w64 b ≡ pos b
   count = to_z-of_z {z = pos b} (sfits-size (pos b) {k = block_count} (omega arith) (lit< tt))
 
   small : nat_abs l ≤ block_bound
-  small = rw (to_z-of_z {w = w64} start.ranges.l) start.requires.3
+  small = start.args.shape.low
 
   row-width : b * block_length + block_length - b * block_length ≡ block_length
   row-width = omega arith
@@ -47,51 +47,51 @@ module _ (c : After-put_block-arg-in-loop-b-2-1) where
   lengths-width : b * column_count + column_count - b * column_count ≡ column_count
   lengths-width = omega arith
 
+  back : to_z w64 (of_z w64 l) ≡ l
+  back = to_z-of_z {w = w64} (sfits-size l small (lit< tt))
+
   fits : SFits w64 (l -ℤ pos b)
   fits = sfits-size (l -ℤ pos b) {k = 68} (block_size l b small (omega arith)) (lit< tt)
 
-  read : to_z w64 (of_z w64 (l -ℤ to_z w64 b)) ≡ l -ℤ pos b
-  read = ap (λ s. to_z w64 (of_z w64 (l -ℤ s))) count ∙ to_z-of_z {w = w64} fits
+  read : to_z w64 (of_z w64 (to_z w64 (of_z w64 l) -ℤ to_z w64 b)) ≡ l -ℤ pos b
+  read = ap₂ (λ r s. to_z w64 (of_z w64 (r -ℤ s))) back count ∙ to_z-of_z {w = w64} fits
 
 pub loop-b-init : goal.loop-b-init
 loop-b-init c =
     let row = c.args.row.now in
-    (omega arith, going-first (ap (λ s. spaced (numbers_of (terms_from s (row_of row).blocks))) (sym (+ℤ_idr _))))
+    going-first (ap (λ s. spaced (numbers_of (terms_from s (row_of row).blocks))) (sym (+ℤ_idr _)))
 
-pub overflow_sub-l : goal.overflow_sub-l
-overflow_sub-l c = rw (count c) (fits c)
+pub overflow_sub-shape : goal.overflow_sub-shape
+overflow_sub-shape c = let turn = (goal.at.overflow_sub-shape c).In-loop-b in rw (back turn, count turn) (fits turn)
 
 pub put_block-next-requires : goal.put_block-next-requires
 put_block-next-requires c =
-    let row = (start c).args.row.now in
-    let lengths = (start c).args.lengths.now in (
+    let turn = (goal.at.put_block-next-requires c).In-loop-b in
+    let k = b turn in
+    let row = c.args.row.now in
+    let lengths = c.args.lengths.now in (
       search rules,
       search rules,
       λ i lt.
-          ap (λ n. get_or (take n (drop (b c * column_count) lengths)) i 0) (lengths-width c)
-          ∙ lengths-part row lengths (start c).args.blocks (b c) c.loop-b-test.true (start c).requires.2 i lt
-          ∙ ap (λ n. length (trim (coefficients_at_of (take n (drop (b c * block_length) row)) i))) (sym (row-width c)),
+          ap (λ n. get_or (take n (drop (k * column_count) lengths)) i 0) (lengths-width turn)
+          ∙ lengths-part row lengths c.args.shape.blocks k c.loop-b-test.true c.requires.2 i lt
+          ∙ ap (λ n. length (trim (coefficients_at_of (take n (drop (k * block_length) row)) i))) (sym (row-width turn)),
       search rules,
-      every-part Limits.small (b c * block_length) (b c * block_length + block_length - b c * block_length) row (start c).requires.5,
-      rw (read c) (block_size (l c) (b c) (small c) (omega arith)),
+      every-part Limits.small (k * block_length) (k * block_length + block_length - k * block_length) row c.requires.4,
+      rw (read turn) (block_size (l turn) k (small turn) (omega (arith, c.args.shape.few))),
     )
 
 pub loop-b-preserved : goal.loop-b-preserved
 loop-b-preserved c =
-    let arg = (goal.at.loop-b-preserved c).After-put_block-arg-in-loop-b-2-1 in
-    let row = (start arg).args.row.now in
+    let turn = (goal.at.loop-b-preserved c).In-loop-b in
+    let row = c.args.row.now in
     let written : ℤ → ℕ → List ℕ =
-    λ s n. spaced (numbers_of (block_terms_of s 1 (block_of (take n (drop (b arg * block_length) row))))) in (
-      omega arith,
-      going_next arg.loop-b.invariant.1 (terms-next (l arg) row (b arg) (omega arith))
-          (put_same c.put_block-next.ensures
-          (ap₂ written (read arg) (row-width arg)))
-          (omega arith),
-    )
+    λ s n. spaced (numbers_of (block_terms_of s 1 (block_of (take n (drop (b turn * block_length) row))))) in
+    going_next c.loop-b.invariant (terms-next (l turn) row (b turn) (omega (arith, c.args.shape.few)))
+    (put_same c.put_block-next.ensures (ap₂ written (read turn) (row-width turn)))
+    (omega arith)
 
 pub returns : goal.returns
 returns c =
     let args = c.args in
-    put_same
-    (going-last c.loop-b.invariant.1 (terms-end _ args.row.now args.blocks c.loop-b.b (omega arith) c.requires.7) (omega arith))
-    (ap (λ s. spaced (numbers_of (terms_from s (row_of args.row.now).blocks))) (to_z-of_z {w = w64} c.ranges.l))
+    going-last c.loop-b.invariant (terms-end _ args.row.now args.shape.blocks c.loop-b.b (omega arith) c.requires.5) (omega arith)

@@ -1,6 +1,6 @@
 -- `writing::writer::put_terms` meets its contract. The loop's invariant: the terms from block l - b down are still to be written.
 -- Assumes nothing.
-use Prim.Native.Nat.{◌*◌, ◌-◌, ◌≤◌}
+use Prim.Native.Nat.{◌*◌}
 use lib.IntN.{pos, ◌-ℤ◌}
 use lib.ListN.{drop}
 use Rattle.rules.specs.Sheets.{terms_from}
@@ -13,9 +13,5 @@ use Rattle.writing.proofs.writer.put_terms.Given as goal
 
 abbrev pub invariant-loop-b : goal.invariant-loop-b
 invariant-loop-b l =
-    (l.b ≤ l.blocks)
-    × Going l.initial.bytes l.at (spaced (numbers_of (terms_from l.l (row_of l.row).blocks))) l.bytes l.next
-    (spaced (numbers_of (terms_from (l.l -ℤ pos l.b) (drop l.b (row_of l.row).blocks)))) (block_bytes * l.b)
-
-abbrev pub decreases-loop-b : goal.decreases-loop-b
-decreases-loop-b l = l.blocks - l.b
+    Going l.initial.bytes l.at (spaced (numbers_of (terms_from l.shape.l (row_of l.row).blocks))) l.bytes l.next
+    (spaced (numbers_of (terms_from (l.shape.l -ℤ pos l.b) (drop l.b (row_of l.row).blocks)))) (block_bytes * l.b)

@@ -1,35 +1,27 @@
--- `writing::writer::put_text` meets its contract. The loop's invariant: the bytes from i on are still to be stored, as far as the store goes.
+-- `writing::writer::put_text` meets its contract: as much of the text is copied as the store takes.
 -- Assumes nothing.
-use mathlib.Core.Path.{refl, sym, ◌∙◌, ap}
-use Prim.Native.Nat.{◌+◌}
-use native.Mathlib.Nat.{le_refl, add-zero}
-use native.Mathlib.Omega.{arith}
-use lib.ListN.{length, length-set}
-use lib.Seq.{sets}
-use Rattle.writing.specs.GivenLines.{text-next, text-last}
+use Rattle.std.proofs.Common.{◌≡◌, refl, sym, ◌∙◌, ap, add-zero, ◌-◌, min, take, length, length-take-le, arith}
+use Rattle.std.proofs.Math.Seq.{sets}
+use Rattle.std.proofs.lemmas.Slice.{put_mid-paste}
+use Rattle.writing.specs.GivenLines.{text-last, text-stored}
 use Rattle.writing.proofs.writer.put_text.Goals as goal
 
-pub loop-i-init : goal.loop-i-init
-loop-i-init c =
-    let args = c.args in
-    (omega arith, refl, ap (λ n. sets args.bytes.now n args.text.now) (add-zero args.at))
-
-pub loop-i-preserved : goal.loop-i-preserved
-loop-i-preserved c =
-    let args = c.args in
-    let i = c.loop-i.i in
-    let inv = c.loop-i.invariant in (
-      omega arith,
-      length-set c.loop-i.bytes (args.at + i) _ ∙ inv.1,
-      text-next c.loop-i.bytes args.text.now args.at i (omega arith) ∙ inv.2,
-    )
-
-pub returns : goal.returns
-returns c =
-    let args = c.args in
-    let inv = c.loop-i.invariant in
+pub returns-then-at-end : goal.returns-then-at-end
+returns-then-at-end c =
+    let d = c.args.bytes.now in
+    let text = c.args.text.now in
+    let at = c.args.at in
+    let n = c.min-end.result - at in
+    let many : n ≡ min (length text) (length d - at) = omega (arith, c.min-end.ensures) in
+    let size : length (take n text) ≡ n = length-take-le n text (omega arith) in
     record {
-      stored = sym (text-last c.loop-i.bytes args.text.now args.at c.loop-i.i (omega arith)) ∙ inv.2;
+      stored = put_mid-paste at n d c.copy_from_slice.new.self (take n text) n c.copy_from_slice.ensures.after refl (sym size) ∙ text-stored d text at n many (omega arith);
       passed = refl;
-      few = le_refl (length args.text.now);
+      few = omega arith;
     }
+
+pub returns-else-at-end : goal.returns-else-at-end
+returns-else-at-end c =
+    let args = c.args in
+    let none : 0 ≡ min (length args.text.now) (length args.bytes.now - args.at) = omega (arith, c.min-end.ensures) in
+    record { stored = sym (ap (λ n. sets args.bytes.now n args.text.now) (sym (add-zero args.at)) ∙ text-last args.bytes.now args.text.now args.at 0 none); passed = refl; few = omega arith }

@@ -57,7 +57,7 @@ module _ (c : After-is_zero) where
 
 pub loop-i-init : goal.loop-i-init
 unfolding every
-loop-i-init c = (omega arith, refl)
+loop-i-init c = refl
 
 pub overflow_mul-from : goal.overflow_mul-from
 overflow_mul-from c = omega (arith, early c)
@@ -87,11 +87,9 @@ returns-then-not-is_zero c =
 
 pub loop-i-preserved : goal.loop-i-preserved
 loop-i-preserved c =
-    let e = (goal.at.loop-i-preserved c).After-is_zero in (
-      omega arith,
-      every-longer is_zero_of (sides (turn e)) (i (turn e)) [] (inside (turn e)) (turn e).loop-i.invariant.1
-          (sym (tested e) ∙ c.if-not-is_zero.false),
-    )
+    let e = (goal.at.loop-i-preserved c).After-is_zero in
+    every-longer is_zero_of (sides (turn e)) (i (turn e)) [] (inside (turn e)) (turn e).loop-i.invariant
+    (sym (tested e) ∙ c.if-not-is_zero.false)
 
 pub returns : goal.returns
 returns c =
@@ -99,4 +97,4 @@ returns c =
     let all = sides_in args.skip args.records args.store.now in
     sym
     (ap (every is_zero_of) (sym (take_all c.loop-i.i all (rw length-sides_in c.loop-i-test.false)))
-    ∙ c.loop-i.invariant.1)
+    ∙ c.loop-i.invariant)

@@ -2,7 +2,6 @@
 -- Assumes nothing.
 use mathlib.Core.Path.{◌≡◌}
 use mathlib.Core.Bool.{true}
-use Prim.Native.Nat.{◌-◌, ◌≤◌}
 use lib.ListN.{take}
 use Rattle.algebra.specs.Polynomials.{is_zero_of}
 use Rattle.lists.specs.Tests.{every}
@@ -10,7 +9,4 @@ use Rattle.writing.specs.Writer.{sides_in}
 use Rattle.writing.proofs.writer.sides_zero.Given as goal
 
 abbrev pub invariant-loop-i : goal.invariant-loop-i
-invariant-loop-i l = (l.i ≤ l.records) × (every is_zero_of (take l.i (sides_in l.skip l.records l.store)) ≡ true)
-
-abbrev pub decreases-loop-i : goal.decreases-loop-i
-decreases-loop-i l = l.records - l.i
+invariant-loop-i l = every is_zero_of (take l.i (sides_in l.skip l.records l.store)) ≡ true

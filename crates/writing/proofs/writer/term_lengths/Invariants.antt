@@ -2,20 +2,16 @@
 -- and the lengths of those before it stand.
 -- Assumes nothing.
 use mathlib.Core.Path.{◌≡◌}
-use Prim.Native.Nat.{◌+◌, ◌*◌, ◌-◌, ◌≤◌}
+use Prim.Native.Nat.{◌+◌, ◌≤◌}
 use lib.ListN.{length, drop}
-use Rattle.rules.specs.Limits.{column_count, polynomial_count}
+use Rattle.rules.specs.Limits.{polynomial_count}
 use Rattle.writing.specs.Writer.{nonzero_count, Lengths}
 use Rattle.rules.specs.Layout.{polynomials_in}
 use Rattle.writing.proofs.writer.term_lengths.Given as goal
 
 abbrev pub invariant-loop-i : goal.invariant-loop-i
 invariant-loop-i l =
-    (l.i ≤ l.blocks * column_count)
-    × (l.terms ≤ l.i)
+    (l.terms ≤ l.i)
     × (l.terms + nonzero_count (drop l.i (polynomials_in l.row)) ≡ nonzero_count (polynomials_in l.row))
     × (length l.lengths ≡ polynomial_count)
     × Lengths l.i l.row l.lengths
-
-abbrev pub decreases-loop-i : goal.decreases-loop-i
-decreases-loop-i l = l.blocks * column_count - l.i

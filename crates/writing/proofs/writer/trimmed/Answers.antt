@@ -17,9 +17,9 @@ returns-then-all_zero c =
     let p = c.args.p.now in
     let rest = take_all (length p - 4) (drop 4 p) (omega (arith, length-drop 4 p)) in
     let zero = ap is_zero_of (sym rest) ∙ sym c.all_zero.ensures ∙ c.if-all_zero.true in
-    c.trimmed_to.ensures ∙ trim-front p 4 (true-T (is_zero_of (drop 4 p)) zero)
+    c.trimmed_of.ensures ∙ trim-front p 4 (true-T (is_zero_of (drop 4 p)) zero)
 
 pub returns : goal.returns
 returns c =
     let p = c.args.p.now in
-    c.trimmed_to-2.ensures ∙ ap (λ q. length (trim q)) (take_all coefficient_count p (omega arith))
+    c.trimmed_of-2.ensures ∙ ap (λ q. length (trim q)) (take_all coefficient_count p (omega arith))

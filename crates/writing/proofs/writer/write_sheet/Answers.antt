@@ -1,21 +1,17 @@
 -- `writing::writer::write_sheet` meets its contract.
 -- Assumes nothing.
-use mathlib.Core.Path.{sym, ◌∙◌}
-use Rattle.rules.specs.SheetCalls.{unwritten}
+use Rattle.std.proofs.Common.{sym}
+use Rattle.std.proofs.lemmas.Result.{err_from_is_err_and}
 use Rattle.stores.specs.Validity.{the_sizes_of}
 use Rattle.writing.specs.WriterChecks.{call-refused}
 use Rattle.writing.proofs.writer.write_sheet.Goals as goal
 
-pub returns-then-refusal-ne0 : goal.returns-then-refusal-ne0
-unfolding unwritten
-returns-then-refusal-ne0 c =
+pub returns-in_err-check_write : goal.returns-in_err-check_write
+returns-in_err-check_write c =
     let a = c.args in
-    let found = c.check_write-refusal in
-    call-refused (the_sizes_of a.sizes) a.count a.order a.rows.now a.relations.now a.bytes.now found.result
-    found.ensures c.if-refusal-ne0.true
+    let p = err_from_is_err_and c.from_residual.result c.from_residual.ensures.1 in
+    rw (p.1, p.2)
+    (call-refused (the_sizes_of a.sizes) a.count a.order a.rows.now a.relations.now a.bytes.now _ c.in_err-check_write.ensures)
 
 pub write_checked-requires : goal.write_checked-requires
-write_checked-requires c = sym c.check_write-refusal.ensures ∙ c.if-refusal-ne0.false
-
-pub returns : goal.returns
-returns c = c.write_checked.ensures
+write_checked-requires c = sym c.in_ok-check_write.ensures

@@ -8,7 +8,7 @@ use Rattle.rules.specs.Stores.{Sizes, check_stores_of}
 use Rattle.stores.specs.Validity.{the_sizes_of}
 use Rattle.writing.specs.WriterChecks.{check_write-order, check_write-sizes}
 use Rattle.writing.proofs.writer.checks.check_write.Goals as goal
-use Rattle.writing.proofs.writer.checks.check_write.Goals.{Start}
+use Rattle.writing.proofs.writer.checks.check_write.Goals.{Start, then-not-sizes_right-via-then-not-sizes_right, then-not-sizes_right-via-else-not-sizes_right+then-not-order_right}
 
 -- what the function is to give, by the test of the order
 module _ (c : Start) where
@@ -26,15 +26,16 @@ module _ (c : Start) where
       ∙ ap (λ b. cond b stores 2) e)
 
 pub returns-then-not-sizes_right : goal.returns-then-not-sizes_right
+unfolding the_sizes_of
 returns-then-not-sizes_right c =
     let args = c.args in
-    check_write-sizes (the_sizes_of args.sizes) args.count args.order args.rows.now args.relations.now
-    (sym c.sizes_right.ensures ∙ c.if-not-sizes_right.true)
-
-pub returns-then-not-order_right : goal.returns-then-not-order_right
-unfolding the_sizes_of
-returns-then-not-order_right c =
-    by_order (goal.at.returns-then-not-order_right c).Start false (sym c.order_right.ensures ∙ c.if-not-order_right.true)
+    elim c.then-not-sizes_right.branch [
+      | then-not-sizes_right-via-then-not-sizes_right w ↦
+          check_write-sizes (the_sizes_of args.sizes) args.count args.order args.rows.now args.relations.now
+          (sym c.sizes_right.ensures ∙ w.if-not-sizes_right.true)
+      | then-not-sizes_right-via-else-not-sizes_right+then-not-order_right w ↦
+          by_order (goal.at.returns-then-not-sizes_right c).Start false (sym w.order_right.ensures ∙ w.if-not-order_right.true)
+    ]
 
 pub returns : goal.returns
 unfolding the_sizes_of

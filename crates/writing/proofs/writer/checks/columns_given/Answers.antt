@@ -1,49 +1,27 @@
--- `writing::writer::checks::columns_given` meets its contract. The loop's invariant: n columns stand before those given from n on.
+-- `writing::writer::checks::columns_given` meets its contract.
 -- Assumes nothing.
-use mathlib.Core.Path.{◌≡◌, refl, ◌∙◌, ap}
-use mathlib.Core.List.{List, ◌∷◌}
-use Prim.Native.Nat.{ℕ, zero, suc, ◌+◌}
-use mathlib.Core.Logic.{◌≢◌}
-use native.Mathlib.Omega.{arith}
-use lib.ListN.{length, drop, get_or, drop_of_length-le}
+use Rattle.std.proofs.Common.{◌≡◌, ◌≢◌, refl, ◌∙◌, ap, ℕ, zero, suc, ◌≤◌, ◌<◌, List, [], ◌∷◌, length, get_or, rules, arith, Option, Some, None, MatchOption, EachIndex}
+use Rattle.std.specs.Option.{unwrap_or}
 use Rattle.rules.specs.SheetCalls.{order_given}
-use Rattle.lists.specs.Taken.{drop-next}
 use Rattle.writing.proofs.writer.checks.columns_given.Goals as goal
-use Rattle.writing.proofs.writer.checks.columns_given.Goals.{In-loop-n}
 
-pub loop-n-init : goal.loop-n-init
-loop-n-init c = (omega arith, omega arith)
-
--- number n, and those past it
-module _ (c : In-loop-n) where
-  abbrev order : List ℕ
-  order = c.args.order.now
-
-  abbrev n : ℕ
-  n = c.loop-n.n
-
-  given-next : (x : ℕ) → get_or order n 0 ≡ x → length (order_given order) ≡ n + length (order_given (x ∷ drop (n + 1) order))
-  given-next x e =
-      c.loop-n.invariant.1
-      ∙ ap (λ l. n + length (order_given l)) (drop-next order n 0 c.loop-n-test.true ∙ ap (λ y. y ∷ drop (n + 1) order) e)
-
-pub returns-then-order-n-eq0 : goal.returns-then-order-n-eq0
+-- Number i of an order is its first 0, or its end.
+given-places : (order : List ℕ) (i : ℕ) → i ≤ length order → (i < length order → get_or order i 0 ≡ 0) → ((k : ℕ) → k < i → get_or order k 0 ≢ 0)
+    → i ≡ length (order_given order)
 unfolding order_given
-returns-then-order-n-eq0 c = omega (arith, given-next (goal.at.returns-then-order-n-eq0 c).In-loop-n 0 c.if-order-n-eq0.true)
+given-places [] i h zero-there before = omega arith
+given-places (zero ∷ l) zero h zero-there before = refl
+given-places (zero ∷ l) (suc i) h zero-there before = absurd (before 0 (omega arith) refl)
+given-places (suc c ∷ l) zero h zero-there before = let no : suc c ≡ 0 = zero-there (omega arith) in absurd (omega arith)
+given-places (suc c ∷ l) (suc i) h zero-there before =
+    ap suc (given-places l i (omega arith) (λ lt. zero-there (omega arith)) (λ k lt. before (suc k) (omega arith)))
 
--- a column, one more
-given-more : (x : ℕ) (l : List ℕ) → x ≢ 0 → length (order_given (x ∷ l)) ≡ suc (length (order_given l))
-unfolding order_given
-given-more zero l some = absurd (some refl)
-given-more (suc x) l some = refl
-
-pub loop-n-preserved : goal.loop-n-preserved
-loop-n-preserved c =
-    let turn = (goal.at.loop-n-preserved c).In-loop-n in
-    (omega arith, omega (arith, given-next turn _ refl, given-more _ (drop (n turn + 1) (order turn)) c.if-order-n-eq0.false))
+given-found : (order : List ℕ) (found : Option ℕ)
+    → MatchOption found (EachIndex order (λ k. get_or order k 0 ≢ 0))
+    (λ i. i < length order × (get_or order i 0 ≡ 0) × ((k : ℕ) → k < i → get_or order k 0 ≢ 0))
+    → unwrap_or found (length order) ≡ length (order_given order)
+given-found order None each = given-places order (length order) (omega arith) (λ lt. absurd (omega arith)) each
+given-found order (Some i) at = given-places order i (omega (arith, at.0)) (λ lt. at.1) at.2
 
 pub returns : goal.returns
-unfolding order_given
-returns c =
-    let order = c.args.order.now in
-    omega (arith, c.loop-n.invariant.1, ap (λ l. length (order_given l)) (drop_of_length-le order c.loop-n-test.false))
+returns c = c.unwrap_or.ensures ∙ given-found c.args.order.now c.position.result (search rules)

@@ -1,20 +1,21 @@
 -- `writing::writer::checks::different_columns` meets its contract. The loop's invariant: the columns from i on tell whether all are right.
 -- Assumes nothing.
 use mathlib.Core.Path.{◌≡◌, refl, sym, ◌∙◌, ap}
-use mathlib.Core.Bool.{true, ◌&&◌, not}
+use mathlib.Core.Bool.{Bool, true, false, ◌&&◌, not}
 use mathlib.Core.List.{List}
-use Prim.Native.Nat.{ℕ, ◌+◌, ◌-◌}
+use Prim.Native.Nat.{ℕ, ◌+◌, ◌-◌, ◌≤◌, ◌<◌}
 use native.Mathlib.Nat.{le_refl}
-use native.Mathlib.Omega.{arith}
 use borrow.Author.Tests.{le-leb, lt-leb}
-use lib.Dec.{leb}
-use lib.ListN.{length, drop, get_or, length-drop, drop_of_length-le}
+use lib.Dec.{eqb, leb}
+use lib.ListN.{length, take, drop, get_or, length-drop, drop_of_length-le}
 use lib.Seq.{take_all}
+use Rattle.std.specs.List.{list_any}
 use Rattle.rules.specs.Sheets.{contains}
+use Rattle.writing.specs.WriterChecks.{any-contains}
 use Rattle.rules.specs.SheetCalls.{different_columns_of}
 use Rattle.lists.specs.Taken.{drop-next}
 use Rattle.writing.proofs.writer.checks.different_columns.Goals as goal
-use Rattle.writing.proofs.writer.checks.different_columns.Goals.{After-contains, Else-m-c, In-loop-i}
+use Rattle.writing.proofs.writer.checks.different_columns.Goals.{In-loop-i, then-c-lt1-via-then-c-lt1, then-c-lt1-via-else-c-lt1+then-m-c, then-c-lt1-via-else-c-lt1+else-m-c+then-contains}
 
 -- column i and those past it
 module _ (c : In-loop-i) where
@@ -35,50 +36,45 @@ module _ (c : In-loop-i) where
 
   left : different_columns_of m columns ≡ (((leb 1 x && leb x m) && not (contains x rest)) && different_columns_of m rest)
   unfolding different_columns_of
-  left = c.loop-i.invariant.1 ∙ ap (different_columns_of m) (drop-next columns i 0 c.loop-i-test.true)
+  left = c.loop-i.invariant ∙ ap (different_columns_of m) (drop-next columns i 0 c.loop-i-test.true)
 
--- what the search of the columns past it says
-found : (c : After-contains)
-    → c.contains.result ≡ contains (x (goal.at.After-contains c).In-loop-i) (rest (goal.at.After-contains c).In-loop-i)
-found c =
-    let e = (goal.at.After-contains c).In-loop-i in
-    c.contains.ensures ∙ ap (contains (x e)) (take_all (length (columns e) - (i e + 1)) (rest e) (rw length-drop (le_refl _)))
+  abbrev others : List ℕ
+  others = take (length columns - (i + 1)) rest
 
--- column i is in 1..m
-module _ (c : Else-m-c) where
-  abbrev turn : In-loop-i
-  turn = (goal.at.Else-m-c c).In-loop-i
+  found : (b : Bool) → list_any (λ y. eqb y x) others ≡ b → contains x rest ≡ b
+  found b e = ap (contains x) (sym (take_all (length columns - (i + 1)) rest (rw length-drop (le_refl _)))) ∙ sym (any-contains x others) ∙ e
 
-  low : leb 1 (x turn) ≡ true
-  low = le-leb 1 (x turn) c.if-c-lt1.false
+  too-low : x < 1 → false ≡ different_columns_of m columns
+  too-low low = rw (left, lt-leb 1 x low)
 
-  high : leb (x turn) (m turn) ≡ true
-  high = le-leb (x turn) (m turn) c.if-m-c.false
+  too-high : 1 ≤ x → m < x → false ≡ different_columns_of m columns
+  too-high low high = rw (left, le-leb 1 x low, lt-leb x m high)
+
+  twice : 1 ≤ x → x ≤ m → list_any (λ y. eqb y x) others ≡ true → false ≡ different_columns_of m columns
+  twice low high again = rw (left, le-leb 1 x low, le-leb x m high, found true again)
+
+  once : 1 ≤ x → x ≤ m → list_any (λ y. eqb y x) others ≡ false → different_columns_of m columns ≡ different_columns_of m rest
+  once low high new = rw (left, le-leb 1 x low, le-leb x m high, found false new)
 
 pub loop-i-init : goal.loop-i-init
-loop-i-init c = (omega arith, refl)
+loop-i-init c = refl
 
 pub returns-then-c-lt1 : goal.returns-then-c-lt1
 returns-then-c-lt1 c =
-    rw (left (goal.at.returns-then-c-lt1 c).In-loop-i, lt-leb 1 (x (goal.at.returns-then-c-lt1 c).In-loop-i) c.if-c-lt1.true)
-
-pub returns-then-m-c : goal.returns-then-m-c
-returns-then-m-c c =
-    let e = (goal.at.returns-then-m-c c).In-loop-i in
-    rw (left e, le-leb 1 (x e) c.if-c-lt1.false, lt-leb (x e) (m e) c.if-m-c.true)
-
-pub returns-then-contains : goal.returns-then-contains
-returns-then-contains c =
-    let e = (goal.at.returns-then-contains c).Else-m-c in
-    rw (left (turn e), low e, high e, sym (found (goal.at.returns-then-contains c).After-contains) ∙ c.if-contains.true)
+    let turn = (goal.at.returns-then-c-lt1 c).In-loop-i in
+    elim c.then-c-lt1.branch [
+      | then-c-lt1-via-then-c-lt1 w ↦ too-low turn w.if-c-lt1.true
+      | then-c-lt1-via-else-c-lt1+then-m-c w ↦ too-high turn w.if-c-lt1.false w.if-m-c.true
+      | then-c-lt1-via-else-c-lt1+else-m-c+then-contains w ↦
+          twice turn w.if-c-lt1.false w.if-m-c.false (sym w.contains.ensures.value ∙ w.if-contains.true)
+    ]
 
 pub loop-i-preserved : goal.loop-i-preserved
 loop-i-preserved c =
-    let e = (goal.at.loop-i-preserved c).Else-m-c in
-    (omega arith, rw (left (turn e), low e, high e, sym (found (goal.at.loop-i-preserved c).After-contains) ∙ c.if-contains.false))
+    once (goal.at.loop-i-preserved c).In-loop-i c.if-c-lt1.false c.if-m-c.false (sym c.contains.ensures.value ∙ c.if-contains.false)
 
 pub returns : goal.returns
 unfolding different_columns_of
 returns c =
     let columns = c.args.columns.now in
-    sym (c.loop-i.invariant.1 ∙ ap (different_columns_of _) (drop_of_length-le columns c.loop-i-test.false))
+    sym (c.loop-i.invariant ∙ ap (different_columns_of _) (drop_of_length-le columns c.loop-i-test.false))
