@@ -11,6 +11,7 @@
 --   divide_at-least        there are no more divisions by n - r than r occurs in the one of both that has it less often
 --   divide_each-common     at a root of the pivot's entry alone nothing is divided
 --   listed-at, listed-less   one of the roots with how often it occurs, and all of them after divisions at one
+--   counts-less           the same of how often each occurs alone
 use Prim.Native.Nat.{ℕ, zero, suc, min, ◌+◌, ◌-◌, ◌≤◌, ◌<◌}
 use Rattle.std.specs.Prelude.{◌≡◌, ◌≢◌, Bool, not, ◌&&◌, T, ltb, ℤ, pos, nat_abs, ◌-ℤ◌, ◌*ℤ◌, length, get_or, set, replicate, ◌<ℤ◌}
 use Rattle.std.proofs.Math.Path.{refl, sym, ap}
@@ -22,6 +23,7 @@ use mathlib.Core.List.{List, [], ◌∷◌, ◌++◌, map, map-map, map_congr_le
 use Rattle.std.proofs.Math.Decide.{dec_le}
 use Rattle.std.proofs.Math.Dec.{not_T}
 use Rattle.std.proofs.Math.IntN.{*ℤ-zero}
+use Rattle.std.proofs.Math.ListN.{get_or-append}
 use Rattle.std.proofs.lemmas.List.{length-map, set-append_left}
 use Rattle.std.specs.Int.Signed.{<ℤ_irrefl}
 use Rattle.algebra.specs.Integers.{ringℤ, -ℤ-zero}
@@ -38,7 +40,7 @@ use Rattle.rules.specs.CommonRoots.{Entries, divide_at, divide_each, divisible, 
 use Rattle.roots.specs.Ascending.{Ascending, first_below}
 use Rattle.multiplicities.specs.declared.Root.{Root}
 use Rattle.multiplicities.specs.declared.RootsWith.{RootsWith}
-use Rattle.multiplicities.specs.Counts.{root_of, no_root, listed_with, times_in, length-times, root-at}
+use Rattle.multiplicities.specs.Counts.{root_of, no_root, listed_with, times_in, length-times, counts, root-at}
 use Rattle.multiplicities.specs.Divisions.{divisions-none, divisions-more, multiplicity-most}
 use Rattle.common_roots.specs.Divisions.{vanishes_at, divides, divisible-both, divide_at-none}
 
@@ -303,3 +305,18 @@ module _ {w : RootsWith} (p : Polynomial) (rs : List ℤ) (e : w ≡ listed_with
 
       inside : i < length (map root_of (times_in p rs))
       inside = rw (length-map (times_in p rs) root_of, length-times p rs) h
+
+-- The same of how often each occurs alone.
+pub counts-at : (p : Polynomial) (rs : List ℤ) (i : ℕ) → i < length rs → get_or (counts p rs) i 0 ≡ multiplicity p (get_or rs i (pos 0))
+counts-at p rs i h =
+    get_or-append (map (multiplicity p) rs) (replicate (16 - length rs) 0) 0 i (rw (length-map rs (multiplicity p)) h)
+    ∙ get_or_map (multiplicity p) rs i (pos 0) 0 h
+
+pub counts-less : (p q : Polynomial) (rs : List ℤ) (i n : ℕ) → Ascending rs → i < length rs → Lessened (get_or rs i (pos 0)) n p q
+    → set (counts p rs) i (get_or (counts p rs) i 0 - n) ≡ counts q rs
+counts-less p q rs i n a h l =
+    let left : get_or (counts p rs) i 0 - n ≡ multiplicity q (get_or rs i (pos 0)) = omega (arith, counts-at p rs i h, l.here) in
+    ap (set (counts p rs) i) left
+    ∙ set-append_left (map (multiplicity p) rs) (replicate (16 - length rs) 0) i (multiplicity q (get_or rs i (pos 0)))
+    (rw (length-map rs (multiplicity p)) h)
+    ∙ ap (λ m. m ++ replicate (16 - length rs) 0) (map-changed (multiplicity p) (multiplicity q) rs i a h l.elsewhere)

@@ -148,12 +148,11 @@ pub fn put_multipliers(g: &mut [i64], h: &mut [i64], a: &[i64], b: &[i64]) -> Ro
     ensures value { result ≡ listed_with (Elimination.roots_with_of (Elimination.multipliers a.now b.now).g) }
 {
     polynomials::content::put_multipliers(g, h, a, b);
-    let roots = roots::roots(g);
-    let found = multiplicities::each_with_times(g, roots);
-    if roots.count == 0 {
+    let found = multiplicities::roots_with(g);
+    if found.count == 0 {
         return found;
     }
-    let other = multiplicities::each_with_times(b, roots);
+    let other = multiplicities::each_with_times(b, found.numbers());
     let common = occurring(other);
     if common.count == 0 {
         found

@@ -12,7 +12,7 @@ ghost use Rattle.differential.specs.Read.{extent_of, SmallExtent};
 ghost use Rattle.differential.specs.Calls.{read_differential_call, write_recurrence_call};
 
 pub use reading::sheet::Sheet;
-use refusals::Refusal;
+pub use refusals::Refusal;
 use stores::lengths::{COLUMNS, RELATIONS, ROWS};
 
 mod equations;

@@ -34,11 +34,11 @@ use Rattle.rules.specs.Elimination.{limit_coefficients}
 use Rattle.theory.specs.ShiftDown.{shift_down, shift_down-shaped}
 use Rattle.working_rows.specs.declared.WorkingRow.{WorkingRow}
 use Rattle.working_rows.specs.Worked.{refusal_of, numbers_of, held}
-use Rattle.refusals.specs.declared.Refusal.{Refusal}
 use Rattle.sides.specs.Lent.{Within, Kept}
 use Rattle.reduction.specs.declared.step.Progress.{Progress}
+use Rattle.reduction.specs.declared.step.Stop.{Stop}
 use Rattle.reduction.specs.Answer as Answer
-use Rattle.reduction.specs.Answer.{step_answer}
+use Rattle.reduction.specs.Answer.{told, progress_at, step_answer}
 use Rattle.reduction.specs.Progress.{Ready, Reached, state_of, answer_of, ready_with}
 use Rattle.reduction.specs.NewRows.{row_room, Storable, saved, saved-within, saved-kept, saved-outcome}
 use Rattle.reduction.specs.NewRows.{coefficients-storable}
@@ -63,10 +63,9 @@ pub record Stepped (rows relations rows' relations' : List ℤ) (p : Progress) (
   pub goes_on : o.done ≡ false
   pub unsettled : o.progress.settled ≡ 0
 
--- The same of a step's result: with a refusal the stores are those of the progress `left`.
-pub record SteppedTo (rows relations rows' relations' : List ℤ) (p : Progress) (r : Result Progress Refusal) (x : Outcome) : Type 0 where
-  pub left : Progress
-  pub stepped : Stepped rows relations rows' relations' p (step_answer r left) x
+-- The same of a step's result: with a refusal the stores are those of the progress at it.
+abbrev pub SteppedTo : List ℤ → List ℤ → List ℤ → List ℤ → Progress → Result Progress Stop → Outcome → Type 0
+SteppedTo rows relations rows' relations' p r x = Stepped rows relations rows' relations' p (step_answer (told r) (progress_at r)) x
 
 pub stepped_same : {rows relations rows' rows'' relations' : List ℤ} {p : Progress} {o o' : Answer.Outcome} {x x' : Outcome}
     → rows' ≡ rows'' → o ≡ o' → x ≡ x' → Stepped rows relations rows'' relations' p o' x' → Stepped rows relations rows' relations' p o x

@@ -10,7 +10,7 @@ ghost use Rattle.log_steps.specs.Logs.{exchanging, raising, lowering, dropping, 
 ghost use Rattle.log_steps.specs.StoreChanges.{Begun, SteppedTo, Losing, Unlost};
 ghost use Rattle.refusals.specs.declared.Refusal.TheVariants.{WrongLog};
 
-use reduction::step::{Progress, SPAN};
+use reduction::step::{Progress, SPAN, Stop};
 use refusals::Refusal;
 use stores::lengths::{BLOCK, ROW};
 use working_rows::WorkingRow;
@@ -56,14 +56,14 @@ fn width_of(rows: &[i64], i: usize) -> usize
 }
 
 // Rows i and j change places (SCOPE 13.21).
-pub fn exchange_rows(rows: &mut [i64], i: usize, j: usize, p: Progress) -> Result<Progress, Refusal>
+pub fn exchange_rows(rows: &mut [i64], i: usize, j: usize, p: Progress) -> Result<Progress, Stop>
     requires { Begun rows.old p }
     ensures { (D : ℕ) (relations : List ℤ) → Ready rows.old relations p
         → SteppedTo rows.old relations rows.new relations p result
         (changed D (state_of rows.old relations p) (exchanging i j)) }
 {
     if !two_rows(i, j, p.rows) {
-        return Err(Refusal::WrongLog);
+        return Err(p.stopped(Refusal::WrongLog));
     }
     let width = width_of(rows, i);
     let other = width_of(rows, j);
@@ -72,22 +72,22 @@ pub fn exchange_rows(rows: &mut [i64], i: usize, j: usize, p: Progress) -> Resul
 }
 
 // Row i, if it is present and the block that a shift takes from it is zero (SCOPE 13.23, 13.24).
-fn row_losing(rows: &[i64], i: usize, block: usize, p: Progress) -> Result<WorkingRow, Refusal>
+fn row_losing(rows: &[i64], i: usize, block: usize, p: Progress) -> Result<WorkingRow, Stop>
     requires { Begun rows.now p × (block ≤ most_span) }
-    ensures { MatchResult result (Losing rows.now p i block) (λ e. (e ≡ WrongLog) × Unlost rows.now p i block) }
+    ensures { MatchResult result (Losing rows.now p i block) (λ e. (e ≡ record { refusal = WrongLog; progress = p }) × Unlost rows.now p i block) }
 {
     if p.rows <= i {
-        return Err(Refusal::WrongLog);
+        return Err(p.stopped(Refusal::WrongLog));
     }
     if !block_zero(rows, i, block) {
-        return Err(Refusal::WrongLog);
+        return Err(p.stopped(Refusal::WrongLog));
     }
     let width = width_of(rows, i);
     Ok(working_rows::stored::load(rows, i * ROW, width))
 }
 
 // Row i is shifted up, and the shift is counted (SCOPE 13.23).
-pub fn raise_row(rows: &mut [i64], i: usize, p: Progress) -> Result<Progress, Refusal>
+pub fn raise_row(rows: &mut [i64], i: usize, p: Progress) -> Result<Progress, Stop>
     requires { Begun rows.old p × (p.shifts < 2 ^ 32) }
     ensures { (D : ℕ) (relations : List ℤ) → Ready rows.old relations p
         → SteppedTo rows.old relations rows.new relations p result
@@ -102,7 +102,7 @@ pub fn raise_row(rows: &mut [i64], i: usize, p: Progress) -> Result<Progress, Re
 }
 
 // Row i is shifted down, which is not counted (SCOPE 13.24).
-pub fn lower_row(rows: &mut [i64], i: usize, span: usize, p: Progress) -> Result<Progress, Refusal>
+pub fn lower_row(rows: &mut [i64], i: usize, span: usize, p: Progress) -> Result<Progress, Stop>
     requires { Begun rows.old p × (span ≤ most_span) }
     ensures { (relations : List ℤ) → Ready rows.old relations p
         → SteppedTo rows.old relations rows.new relations p result
@@ -113,17 +113,17 @@ pub fn lower_row(rows: &mut [i64], i: usize, span: usize, p: Progress) -> Result
 }
 
 // Row i is left out, and the later rows move up (SCOPE 13.25).
-pub fn drop_row(rows: &mut [i64], i: usize, p: Progress) -> Result<Progress, Refusal>
+pub fn drop_row(rows: &mut [i64], i: usize, p: Progress) -> Result<Progress, Stop>
     requires { Begun rows.old p }
     ensures { (D : ℕ) (relations : List ℤ) → Ready rows.old relations p
         → SteppedTo rows.old relations rows.new relations p result
         (changed D (state_of rows.old relations p) (dropping i)) }
 {
     if p.rows <= i {
-        return Err(Refusal::WrongLog);
+        return Err(p.stopped(Refusal::WrongLog));
     }
     if !row_zero(rows, i) {
-        return Err(Refusal::WrongLog);
+        return Err(p.stopped(Refusal::WrongLog));
     }
     let last = p.rows - 1;
     reduction::dropping::move_up(rows, i * ROW, (last - i) * ROW);

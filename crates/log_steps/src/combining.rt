@@ -18,7 +18,7 @@ ghost use Rattle.log_steps.specs.StoreChanges.{SteppedTo};
 ghost use Rattle.log_steps.specs.StoreCombinations.{new_row, judged_row, quotient_of, Judged};
 
 use polynomials::lengths::COEFFICIENTS;
-use reduction::step::Progress;
+use reduction::step::{Progress, Stop};
 use refusals::Refusal;
 use sides::Side;
 use stores::lengths::ROW;
@@ -169,7 +169,7 @@ fn combine_allowed(
     g: &[i64],
     worked: Result<WorkingRow, Refusal>,
     p: Progress,
-) -> Result<Progress, Refusal>
+) -> Result<Progress, Stop>
     requires ready { Ready rows.old relations.old p × (p.settled ≡ 0) × (i < p.rows) }
     requires g_len { (length g.now ≡ coefficient_count) × T (every small g.now) × IfOk worked Full }
     ensures { (j d : ℕ) (h : List ℤ) → j < p.rows
@@ -180,7 +180,7 @@ fn combine_allowed(
     let found = multiplicities::roots_with(g);
     let count = p.count + found.count;
     if 16 < count {
-        return Err(Refusal::TooManyRelations);
+        return Err(p.stopped(Refusal::TooManyRelations));
     }
     let row = stores::rows::row_at(rows, i * ROW);
     sides::listing::list_roots(relations, p.count, found, Side::Leading, row);
@@ -197,7 +197,7 @@ pub fn combine_rows(
     g: &[i64],
     h: &[i64],
     p: Progress,
-) -> Result<Progress, Refusal>
+) -> Result<Progress, Stop>
     requires ready { Ready rows.old relations.old p × (p.settled ≡ 0) × T (lt_z (pos 0) d) }
     requires g_len { (length g.now ≡ coefficient_count) × T (every small g.now) × (length h.now ≡ coefficient_count) × T (every small h.now) }
     ensures { (D : ℕ) → SteppedTo rows.old relations.old rows.new relations.new p result
@@ -205,15 +205,15 @@ pub fn combine_rows(
         (combining i j (nat_abs d) g.now h.now)) }
 {
     if !crate::changing::two_rows(i, j, p.rows) {
-        return Err(Refusal::WrongLog);
+        return Err(p.stopped(Refusal::WrongLog));
     }
     if polynomials::content::is_zero(g) {
-        return Err(Refusal::WrongLog);
+        return Err(p.stopped(Refusal::WrongLog));
     }
     let target = stores::rows::row_at(rows, i * ROW);
     let pivot = stores::rows::row_at(rows, j * ROW);
     match divided_row(d, g, h, target, pivot) {
-        None => Err(Refusal::WrongLog),
+        None => Err(p.stopped(Refusal::WrongLog)),
         Some(worked) => combine_allowed(rows, relations, i, g, worked, p),
     }
 }

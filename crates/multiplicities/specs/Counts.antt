@@ -4,20 +4,24 @@
 --   root_of, pair_of       a pair as the code holds it, and back; no_root zeros
 --   listed_with l          the array that holds the pairs l, zeros past their end
 --   held_with w            the pairs that the array holds; roots_held w the numbers alone
+--   placed f zero l i      what f gives of the first i of l, in an array, zeros behind
 --   times_in p rs          each of the numbers rs, with how often it occurs as a root of p
+--   counts p rs            how often each occurs alone, in an array
 --   counted p rs i         the first i of them in an array, zeros behind
 --   with_times_of p o      a root of p or none, with how often it occurs
 --   answered_with p o      the same of an answer of the rules
 --
 -- Main statements
 --   held_with-of, roots_held-of, root-at   the pairs that are held, the numbers alone, and one of them
+--   placed-next            one place more
+--   values-all             the numbers alone, all of them
 --   counted-next, counted-all   one count more; all of them
 --   times-held, found-held, found-count, found-long   the numbers that were counted, the roots, how many, and the places
 --   roots-within           the roots of a small polynomial are within ±C
 --   furthest-small         the largest and the smallest root are within ±C
 use Rattle.std.specs.Prelude as Prelude
 use Rattle.std.specs.Prelude.{ℕ, suc, ◌+◌, ◌-◌, ◌≤◌, ◌<◌, ◌≡◌, refl, T, ℤ, pos, nat_abs, length, get_or, take, set, replicate, None, Some, IfSome, slice_get}
-use Rattle.std.proofs.Common.{sym, ◌∙◌, ap, ap₂, le_refl, add-one, arith, le→leb, take_all, take-suc, length-append, length-take-le}
+use Rattle.std.proofs.Common.{sym, ◌∙◌, ap, ap₂, le_refl, le_of_eq, add-one, arith, le→leb, take_all, take-suc, length-append, length-take-le}
 use Rattle.std.proofs.Math.Logic.{by_cases}
 use Rattle.std.proofs.Math.Decide.{dec_le}
 use Rattle.std.proofs.Common.{subst, lt_of_not-le}
@@ -37,7 +41,7 @@ use Rattle.lists.specs.Images.{get_or_map}
 use Rattle.lists.specs.Tests.{every, every-member, dec-T}
 use Rattle.rules.specs.Limits.{bound, small}
 use Rattle.rules.specs.Elimination.{Side, leading, trailing, furthest, roots_with_of}
-use Rattle.roots.specs.RootSearch.{answered, roots-small, roots-constant, roots-ascend, answered-first, answered-last}
+use Rattle.roots.specs.RootSearch.{listed, answered, roots-small, roots-constant, roots-ascend, answered-first, answered-last}
 use Rattle.multiplicities.specs.declared.RootsWith.{RootsWith}
 use Rattle.multiplicities.specs.declared.Root.{Root}
 
@@ -81,6 +85,52 @@ module _ {w : RootsWith} (l : List (ℤ × ℕ)) (e : w ≡ listed_with l) where
       ∙ get_or-append (map root_of l) (replicate (16 - length l) no_root) no_root i (rw (length-map l root_of) h)
       ∙ get_or_map root_of l i (pos 0, 0) no_root h
 
+-- ---- an array that is filled place by place
+
+-- What f gives of the first i of l, zeros behind.
+abbrev pub placed : {A B : Type 0} → (A → B) → B → List A → ℕ → List B
+placed f zero l i = map f (take i l) ++ replicate (16 - i) zero
+
+pub placed-next : {A B : Type 0} (f : A → B) (d : A) (zero : B) (l : List A) (i : ℕ) → i < length l → i < 16
+    → set (placed f zero l i) i (f (get_or l i d)) ≡ placed f zero l (i + 1)
+placed-next {A} {B} f d zero l i inside h =
+    ap₂ (λ n k. set (before ++ replicate n zero) k x) room here ∙ set-append_seam before zero rest x ∙ sym (append_snoc before x rest)
+    ∙ ap (λ m. m ++ rest) (sym longer)
+  where
+    x : B
+    x = f (get_or l i d)
+
+    before : List B
+    before = map f (take i l)
+
+    rest : List B
+    rest = replicate (16 - (i + 1)) zero
+
+    room : 16 - i ≡ suc (16 - (i + 1))
+    room = omega arith
+
+    here : i ≡ length before
+    here = sym (length-map (take i l) f ∙ length-take-le i l (omega arith))
+
+    longer : map f (take (i + 1) l) ≡ before ++ (x ∷ [])
+    longer = ap (λ n. map f (take n l)) (add-one i) ∙ ap (map f) (take-suc l i d inside) ∙ map-append f (take i l) (get_or l i d ∷ [])
+
+-- The numbers alone, all of them.
+pub values-all : (w : RootsWith) (i : ℕ) → i ≡ w.count → w.count ≤ length w.roots
+    → record { count = w.count; values = placed (λ r. r.value) (pos 0) (take w.count w.roots) i } ≡ listed (roots_held w)
+values-all w i e h =
+    ap (λ n. record { count = w.count; values = placed (λ r. r.value) (pos 0) numbers n }) e
+    ∙ ap₂ (λ n l. record { count = n; values = map (λ r. r.value) l ++ replicate (16 - n) (pos 0) }) count-is (take_all w.count numbers (le_of_eq held-long))
+  where
+    numbers : List Root
+    numbers = take w.count w.roots
+
+    held-long : length numbers ≡ w.count
+    held-long = length-take-le w.count w.roots h
+
+    count-is : w.count ≡ length (roots_held w)
+    count-is = sym (length-map numbers (λ r. r.value) ∙ held-long)
+
 -- ---- the roots
 
 slice_get-small : (l : List ℤ) (i : ℕ) → T (every small l) → IfSome (slice_get l i) (λ r. nat_abs r ≤ bound)
@@ -102,6 +152,10 @@ times_in p rs = map (λ r. (r, multiplicity p r)) rs
 pub length-times : (p : Polynomial) (rs : List ℤ) → length (times_in p rs) ≡ length rs
 length-times p rs = length-map rs (λ r. (r, multiplicity p r))
 
+-- How often each occurs alone, in an array with zeros behind.
+abbrev pub counts : Polynomial → List ℤ → List ℕ
+counts p rs = map (multiplicity p) rs ++ replicate (16 - length rs) 0
+
 -- The first i of rs as they are counted, zeros behind.
 abbrev pub counted : Polynomial → List ℤ → ℕ → List Root
 counted p rs i = map root_of (times_in p (take i rs)) ++ replicate (16 - i) no_root
@@ -109,32 +163,13 @@ counted p rs i = map root_of (times_in p (take i rs)) ++ replicate (16 - i) no_r
 pub counted-next : (p : Polynomial) (rs : List ℤ) (i : ℕ) → i < length rs → i < 16
     → set (counted p rs i) i (root_of (get_or rs i (pos 0), multiplicity p (get_or rs i (pos 0)))) ≡ counted p rs (i + 1)
 counted-next p rs i inside h =
-    ap₂ (λ n k. set (before ++ replicate n no_root) k x) room here ∙ set-append_seam before no_root rest x ∙ sym (append_snoc before x rest)
-    ∙ ap (λ l. l ++ rest) (sym longer)
+    ap (λ l. set l i (f (get_or rs i (pos 0)))) (as-placed i) ∙ placed-next f (pos 0) no_root rs i inside h ∙ sym (as-placed (i + 1))
   where
     f : ℤ → Root
     f r = root_of (r, multiplicity p r)
 
-    x : Root
-    x = root_of (get_or rs i (pos 0), multiplicity p (get_or rs i (pos 0)))
-
-    before : List Root
-    before = map root_of (times_in p (take i rs))
-
-    rest : List Root
-    rest = replicate (16 - (i + 1)) no_root
-
-    room : 16 - i ≡ suc (16 - (i + 1))
-    room = omega arith
-
-    here : i ≡ length before
-    here = sym (length-map (times_in p (take i rs)) root_of ∙ length-times p (take i rs) ∙ length-take-le i rs (omega arith))
-
-    longer : map root_of (times_in p (take (i + 1) rs)) ≡ before ++ (x ∷ [])
-    longer = ap (λ n. map root_of (times_in p (take n rs))) (add-one i)
-        ∙ ap (λ l. map root_of (times_in p l)) (take-suc rs i (pos 0) inside)
-        ∙ ap (map root_of) (map-append (λ r. (r, multiplicity p r)) (take i rs) (get_or rs i (pos 0) ∷ []))
-        ∙ map-append root_of (times_in p (take i rs)) (times_in p (get_or rs i (pos 0) ∷ []))
+    as-placed : (n : ℕ) → counted p rs n ≡ placed f no_root rs n
+    as-placed n = ap (λ l. l ++ replicate (16 - n) no_root) (map-map root_of (λ r. (r, multiplicity p r)) (take n rs))
 
 -- All of them are counted.
 pub counted-all : (p : Polynomial) (rs : List ℤ) → record { count = length rs; roots = counted p rs (length rs) } ≡ listed_with (times_in p rs)

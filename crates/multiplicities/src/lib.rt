@@ -12,7 +12,7 @@ ghost use Rattle.algebra.specs.Roots as Roots;
 ghost use Rattle.rules.specs.Elimination as Elimination;
 ghost use Rattle.roots.specs.RootSearch.{held, listed};
 ghost use Rattle.multiplicities.specs.Divisions.{Limited, Divisible, quotient_within};
-ghost use Rattle.multiplicities.specs.Counts.{listed_with, times_in, with_times_of, answered_with};
+ghost use Rattle.multiplicities.specs.Counts.{listed_with, roots_held, times_in, with_times_of, answered_with};
 
 use polynomials::lengths::COEFFICIENTS;
 
@@ -80,6 +80,23 @@ pub struct Root {
 pub struct RootsWith {
     pub count: usize,
     pub roots: [Root; 16],
+}
+
+impl RootsWith {
+    // The numbers alone, in their order, without how often each occurs.
+    pub fn numbers(&self) -> roots::RootList
+        requires { self.now.count ≤ 16 }
+        ensures { result ≡ listed (roots_held self.now) }
+    {
+        let mut values = [0; 16];
+        for (i, root) in self.roots[..self.count].iter().enumerate() {
+            values[i] = root.value;
+        }
+        roots::RootList {
+            count: self.count,
+            values,
+        }
+    }
 }
 
 // Each of the listed numbers, with how often it occurs as a root of p (SCOPE 2.84).

@@ -4,6 +4,7 @@
 --   Noted all log log' n k          unless n is a refusal, the store log' begins with the k steps `all`; past the needed part it is as
 --                                   before
 --   progress_of r, steps_in r       where the run with the result r has come to, and the steps of its log
+--   walk_in r, told_of r            how far the steps with the result r have come, and the result of the run that they are
 --   SoFar, Noting                   the same in the midst of a run, with the steps that are still to come
 --
 -- Main statements
@@ -26,6 +27,7 @@ use Rattle.rules.specs.Elimination.{State, going, leading, step, finished, start
 use Rattle.sides.specs.Lent.{Kept}
 use Rattle.sides.specs.StoreStates.{kept_same, kept_then}
 use Rattle.reduction.specs.declared.step.Progress.{Progress}
+use Rattle.reduction.specs.declared.step.Stop.{Stop}
 use Rattle.reduction.specs.Answer as Answer
 use Rattle.refusals.specs.declared.Refusal.{Refusal}
 use Rattle.own_logs.specs.declared.Written.{Written}
@@ -62,6 +64,15 @@ progress_of (Err r) = Err r
 abbrev pub steps_in : Result Written Refusal → ℕ
 steps_in (Ok w) = w.steps
 steps_in (Err r) = 0
+
+-- The same where the steps of a run stop: how far it has come, and what a caller of the run is told.
+abbrev pub walk_in : Result Written Stop → Result Progress Stop
+walk_in (Ok w) = Ok w.progress
+walk_in (Err s) = Err s
+
+abbrev pub told_of : Result Written Stop → Result Written Refusal
+told_of (Ok w) = Ok w
+told_of (Err s) = Err s.refusal
 
 -- ---- in the midst of a run
 

@@ -16,12 +16,12 @@ ghost use Rattle.log_steps.specs.Logs.{step_length};
 ghost use Rattle.log_steps.specs.Logs.{own_need};
 ghost use Rattle.own_logs.specs.Own.{own_changes};
 ghost use Rattle.own_logs.specs.OwnLines.{Two};
-ghost use Rattle.own_logs.specs.LoggedSteps.{most_lines, Noted, progress_of, steps_in};
+ghost use Rattle.own_logs.specs.LoggedSteps.{most_lines, Noted, progress_of, steps_in, walk_in, told_of};
 ghost use Rattle.own_logs.specs.LogStores.{LogLeft, closed};
 
 use lines::Lines;
 use log_steps::lengths::{LOG, STEP};
-use reduction::step::{Progress, SPAN};
+use reduction::step::{Progress, SPAN, Stop};
 use refusals::Refusal;
 use sides::Side;
 use stores::lengths::COLUMNS;
@@ -54,14 +54,14 @@ fn steps(
     equations: usize,
     count: usize,
     log: &mut [i64],
-) -> Result<Written, Refusal>
+) -> Result<Written, Stop>
     requires { (equations ≤ most_equations) × Within (row_need equations) rows.old × Listing count relations.old
         × (own_need ≤ length log.old) }
     ensures came { Came run_answer equations rows.old relations.old rows.new relations.new most_steps
-        (progress_of result) (run_of Elimination.leading equations count rows.old relations.old) }
+        (walk_in result) (run_of Elimination.leading equations count rows.old relations.old) }
     ensures noted { Noted
         (own_changes (rows_of equations rows.old) (relations_of count relations.old))
-        log.old log.new (refusal_in result) (steps_in result) }
+        log.old log.new (refusal_in (told_of result)) (steps_in (told_of result)) }
 {
     let mut p = Progress::start(equations, count);
     let mut k = 0;
@@ -102,10 +102,10 @@ pub fn run(
 {
     match steps(rows, relations, equations, count, log) {
         Ok(written) => Ok(written),
-        Err(refusal) => {
-            reduction::run::clear(rows, relations, equations);
+        Err(stop) => {
+            reduction::run::clear(rows, relations, equations, stop.progress.count);
             stores::rows::clear(log, 0, LOG);
-            Err(refusal)
+            Err(stop.refusal)
         }
     }
 }

@@ -2,7 +2,9 @@
 --
 -- Main definitions
 --   Outcome                the number of a refusal, or 0; whether the run is done; and how far it has come
---   progress_in r left     how far a run has come with the result r: a refusal does not say it, and then it is `left`
+--   told r                 the result that a caller of the run is told: a refusal alone
+--   progress_at r          how far a step or a run has come, at a refusal too
+--   progress_in r left     how far a run has come with the result that is told: a refusal does not say it, and then it is `left`
 --   step_answer r left     a step, which goes on or is refused
 --   run_answer r left      a run, which is done where every row that is left is settled
 use Rattle.std.specs.Prelude.{ℕ, Bool, false, leb, Result}
@@ -10,11 +12,20 @@ use Rattle.std.proofs.Common.{Ok, Err}
 use Rattle.refusals.specs.declared.Refusal.{Refusal}
 use Rattle.refusals.specs.Refusals.{refusal_in}
 use Rattle.reduction.specs.declared.step.Progress.{Progress}
+use Rattle.reduction.specs.declared.step.Stop.{Stop}
 
 pub record Outcome : Type 0 where
   pub refusal : ℕ
   pub done : Bool
   pub progress : Progress
+
+abbrev pub told : Result Progress Stop → Result Progress Refusal
+told (Ok p) = Ok p
+told (Err s) = Err s.refusal
+
+abbrev pub progress_at : Result Progress Stop → Progress
+progress_at (Ok p) = p
+progress_at (Err s) = s.progress
 
 abbrev pub progress_in : Result Progress Refusal → Progress → Progress
 progress_in (Ok p) left = p

@@ -13,7 +13,7 @@
 --   Reached n .. most o x        what steps give with n rows at first: their outcome is x, the places of the rows that were
 --                                dropped hold 0, the rest of the stores is kept, at most `most` shifts are made, and the stores
 --                                are ready for a step
---   Came view n .. most r x      the same of a result r: with a refusal the stores are those of the progress `left`
+--   Came view n .. most r x      the same of a result r: with a refusal the stores are those of the progress at it
 --
 -- Main statements
 --   outcome-run                  the outcome of a run's result is that of its answer
@@ -30,10 +30,11 @@ use Rattle.lists.specs.Padded.{pad_to}
 use Rattle.working_rows.specs.Found.{Columns}
 use Rattle.sides.specs.Lent.{Within, Listing, Kept}
 use Rattle.reduction.specs.declared.step.Progress.{Progress}
+use Rattle.reduction.specs.declared.step.Stop.{Stop}
 use Rattle.refusals.specs.declared.Refusal.{Refusal}
 use Rattle.refusals.specs.Refusals.{number_of, number-nonzero}
 use Rattle.reduction.specs.Answer as Answer
-use Rattle.reduction.specs.Answer.{run_answer}
+use Rattle.reduction.specs.Answer.{told, progress_at, run_answer}
 
 abbrev pub state : List Row → List Relation → List ℕ → ℕ → State
 state rows relations order shifts = record { rows = rows; relations = relations; order = order; shifts = shifts }
@@ -142,7 +143,6 @@ pub record Reached (n : ℕ) (rows relations rows' relations' : List ℤ) (most 
   pub few-shifts : o.progress.shifts ≤ most
   pub ready : Ready rows' relations' o.progress
 
-pub record Came (view : Result Progress Refusal → Progress → Answer.Outcome) (n : ℕ) (rows relations rows' relations' : List ℤ) (most : ℕ)
-    (r : Result Progress Refusal) (x : Outcome) : Type 0 where
-  pub left : Progress
-  pub reached : Reached n rows relations rows' relations' most (view r left) x
+abbrev pub Came : (Result Progress Refusal → Progress → Answer.Outcome) → ℕ → List ℤ → List ℤ → List ℤ → List ℤ → ℕ
+    → Result Progress Stop → Outcome → Type 0
+Came view n rows relations rows' relations' most r x = Reached n rows relations rows' relations' most (view (told r) (progress_at r)) x

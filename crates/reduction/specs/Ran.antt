@@ -12,20 +12,21 @@
 -- Main statements
 --   zeros-small                    zeros are within ±C
 --   ran-held                       a run without a refusal
---   ran-cleared                    a refused run, after the needed parts of both stores are cleared
+--   ran-cleared                    a refused run, after the rows and the relations that it has listed are cleared
 --   cleared-zeros                  how they are
 --   ran-kept                       a refused run on stores that were changed before it
 use Rattle.std.specs.Prelude.{ℕ, zero, suc, ◌+◌, ◌*◌, ◌-◌, ◌≤◌, ◌≡◌, ◌≢◌, Bool, List, ◌++◌, ℤ, pos, length, take, replicate}
-use Rattle.std.proofs.Common.{zero-le, le_refl, le_of_eq, zero-add, arith, ◌∙◌, subst₂, length-append, length-drop, take-append-drop, take-add, take_all, length-take-le}
+use Rattle.std.proofs.Common.{zero-le, le_refl, le_of_eq, zero-add, add-sub_of_le, arith, ◌∙◌, subst₂, append_assoc, length-append, length-drop, take-append-drop, take-add, take_all, drop-drop, length-take-le}
 use Rattle.std.proofs.Math.Path.{refl, sym, ap, ap₂, subst}
 use Rattle.std.proofs.Math.Bool.{true, false}
 use Rattle.std.proofs.Math.Dec.{T}
 use Rattle.std.proofs.Math.ListN.{drop}
-use Rattle.std.proofs.lemmas.List.{length-replicate}
+use Rattle.std.proofs.lemmas.List.{length-replicate, replicate-append-replicate}
 use Rattle.std.proofs.Math.Seq.{paste, take_at, drop_at}
-use Rattle.algebra.specs.Polynomials.{is_zero_of, is_zero-replicate}
-use Rattle.rules.specs.Limits.{column_count, most_equations, row_length, small}
+use Rattle.algebra.specs.Polynomials.{is_zero_of, is_zero-replicate, zero-list}
+use Rattle.rules.specs.Limits.{column_count, most_equations, row_length, relation_length, small}
 use Rattle.lists.specs.Tests.{every}
+use Rattle.lists.specs.Taken.{drop-take}
 use Rattle.rules.specs.Stores.{rows_of, relations_of, row_need, relation_need, row_store_for, relation_store_of}
 use Rattle.rules.specs.Elimination.{Side, State, Outcome, going, done, refused, run, enough, start}
 use Rattle.rules.specs.Layout.{row_store_of-rows_of, relation_store_of-relations_of, length-rows_of, length-relations_of}
@@ -220,6 +221,36 @@ module _ (need : ℕ) (store : List ℤ) where
   cleared-zeros =
       ap₂ (λ z n. z ++ drop n store) (take_all need (zeros need) (le_of_eq size)) (zero-add need ∙ sym size)
 
+-- Where the places past the used ones hold 0, all are cleared with those.
+clear-used : (used need : ℕ) (store : List ℤ) → used ≤ need → need ≤ length store → T (is_zero_of (drop used (take need store)))
+    → overwrite (zeros used) store ≡ overwrite (zeros need) store
+unfolding overwrite zeros
+clear-used used need store h g z =
+    ap (λ n. zeros used ++ drop n store) (length-zeros used)
+    ∙ ap (λ l. zeros used ++ l) (sym (take-append-drop rest (drop used store)) ∙ ap₂ (λ k l. k ++ l) unused (drop-drop rest used store))
+    ∙ sym (append_assoc (zeros used) (zeros rest) (drop (used + rest) store))
+    ∙ ap₂ (λ k n. k ++ drop n store) (replicate-append-replicate used rest (pos 0) ∙ ap zeros total) (total ∙ sym (length-zeros need))
+  where
+    rest : ℕ
+    rest = need - used
+
+    total : used + rest ≡ need
+    total = add-sub_of_le h
+
+    unused-size : length (drop used (take need store)) ≡ rest
+    unused-size = length-drop used (take need store) ∙ ap (λ n. n - used) (length-take-le need store g)
+
+    unused : take rest (drop used store) ≡ zeros rest
+    unused =
+        sym (drop-take used rest store) ∙ ap (λ n. drop used (take n store)) total ∙ zero-list (drop used (take need store)) z
+        ∙ ap zeros unused-size
+
+-- So it is with the relations that are listed.
+listed-cleared : {count : ℕ} {relations relations' : List ℤ} → Listing count relations
+    → relations' ≡ overwrite (zeros (count * relation_length)) relations → relations' ≡ overwrite (zeros relation_need) relations
+listed-cleared {count} {relations} listing e =
+    e ∙ clear-used (count * relation_length) relation_need relations (omega (arith, listing.few)) listing.within.long listing.unused
+
 zeros-listing : (store : List ℤ) → relation_need ≤ length store → Listing 0 (overwrite (zeros relation_need) store)
 unfolding zeros
 zeros-listing store h =
@@ -266,15 +297,16 @@ ran-zeros most equations n rows relations h few rows_long relations-long =
     relations' : List ℤ
     relations' = overwrite (zeros relation_need) relations
 
--- The needed parts of both stores are cleared.
+-- The rows and the relations that are listed when the run is refused are cleared.
 pub ran-cleared : {most equations : ℕ} {rows relations rows₁ relations₁ rows₂ relations₂ : List ℤ} {o : Answer.Outcome} {x : Outcome}
     → equations ≤ most_equations → row_need equations ≤ length rows
     → Reached equations rows relations rows₁ relations₁ most o x → o.refusal ≢ 0
-    → rows₂ ≡ overwrite (zeros (row_need equations)) rows₁ → relations₂ ≡ overwrite (zeros relation_need) relations₁
+    → rows₂ ≡ overwrite (zeros (row_need equations)) rows₁ → relations₂ ≡ overwrite (zeros (o.progress.count * relation_length)) relations₁
     → RanWithin most equations rows relations rows₂ relations₂ (answer_of o.refusal (start_progress equations 0)) x
 ran-cleared {most} {equations} {rows} {relations} {rows₁} {relations₁} {rows₂} {relations₂} {o} {x} few room r n e f =
     subst₂ (λ a b. RanWithin most equations rows relations a b (answer_of o.refusal (start_progress equations 0)) x)
-    (sym (e ∙ zeros-over (row_need equations) rows r.rows-kept)) (sym (f ∙ zeros-over relation_need relations r.relations-kept))
+    (sym (e ∙ zeros-over (row_need equations) rows r.rows-kept))
+    (sym (listed-cleared r.ready.listing f ∙ zeros-over relation_need relations r.relations-kept))
     (subst (RanWithin most equations rows relations (overwrite (zeros (row_need equations)) rows)
     (overwrite (zeros relation_need) relations) (answer_of o.refusal (start_progress equations 0))) (refused-outcome r n)
     (ran-zeros most equations o.refusal rows relations n few room

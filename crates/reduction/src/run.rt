@@ -3,17 +3,17 @@ ghost use Rattle.std.specs.Prelude.{◌≡◌, ◌+◌, ◌*◌, ◌≤◌, T, l
 ghost use Rattle.lists.specs.Overwritten.{overwrite};
 ghost use Rattle.lists.specs.Tests.{every};
 ghost use Rattle.rules.specs.Calls.{zeros};
-ghost use Rattle.rules.specs.Limits.{column_count, most_equations, most_span};
-ghost use Rattle.rules.specs.Stores.{row_need, relation_need, rows_of, unused_zero_of};
+ghost use Rattle.rules.specs.Limits.{column_count, most_equations, most_relations, most_span, relation_length};
+ghost use Rattle.rules.specs.Stores.{row_need, rows_of, unused_zero_of};
 ghost use Rattle.sides.specs.Lent.{Within, Listing, side_of};
 ghost use Rattle.reduction.specs.Answer.{run_answer};
 ghost use Rattle.reduction.specs.Progress.{most_steps, Came, Reached, final_answer};
 ghost use Rattle.reduction.specs.Ran.{run_of, answer_for_of, rows_after_of, relations_after_of};
 
-use crate::step::Progress;
+use crate::step::{Progress, Stop};
 use refusals::Refusal;
 use sides::Side;
-use stores::lengths::{RELATIONS, ROW};
+use stores::lengths::{RELATION, ROW};
 
 // A bound on the steps that no run reaches (SCOPE 3.24): a settling or a dropping and five shifts for each row, and every settled row
 // before each of those.
@@ -32,7 +32,7 @@ fn steps(
     side: Side,
     count: usize,
     span: usize,
-) -> Result<Progress, Refusal>
+) -> Result<Progress, Stop>
     requires equations_le_most_equations { (equations ≤ most_equations) × Within (row_need equations) rows.old × Listing count relations.old }
     requires span_le_most_span { (span ≤ most_span) × T (every (unused_zero_of column_count span) (rows_of equations rows.old)) }
     ensures { Came run_answer equations rows.old relations.old rows.new relations.new most_steps result
@@ -49,14 +49,16 @@ fn steps(
     Ok(p)
 }
 
-// A refused run leaves zeros in the rows and in the whole relation store (SCOPE 6.33).
-pub fn clear(rows: &mut [i64], relations: &mut [i64], equations: usize)
-    requires { (equations ≤ most_equations) × (row_need equations ≤ length rows.old) × (relation_need ≤ length relations.old) }
+// Zeros in the places of the rows and in those of the relations that are listed. The places behind these hold 0 already (SCOPE 3.13), so that
+// a refused run leaves zeros in the needed parts of both stores (SCOPE 6.33).
+pub fn clear(rows: &mut [i64], relations: &mut [i64], equations: usize, listed: usize)
+    requires { (equations ≤ most_equations) × (row_need equations ≤ length rows.old)
+        × (listed ≤ most_relations) × (listed * relation_length ≤ length relations.old) }
     ensures rows_after { rows.new ≡ overwrite (zeros (row_need equations)) rows.old }
-    ensures relations_after { relations.new ≡ overwrite (zeros relation_need) relations.old }
+    ensures relations_after { relations.new ≡ overwrite (zeros (listed * relation_length)) relations.old }
 {
     stores::rows::clear(rows, 0, equations * ROW);
-    stores::rows::clear(relations, 0, RELATIONS);
+    stores::rows::clear(relations, 0, listed * RELATION);
 }
 
 // A refused run leaves zeros (SCOPE 6.33).
@@ -80,9 +82,9 @@ pub fn run(
 {
     match steps(rows, relations, equations, side, count, span) {
         Ok(p) => Ok(p),
-        Err(refusal) => {
-            clear(rows, relations, equations);
-            Err(refusal)
+        Err(stop) => {
+            clear(rows, relations, equations, stop.progress.count);
+            Err(stop.refusal)
         }
     }
 }

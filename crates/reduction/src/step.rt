@@ -12,7 +12,7 @@ ghost use Rattle.refusals.specs.Refusals.{refusal_in};
 ghost use Rattle.working_rows.specs.Working.{Full};
 ghost use Rattle.working_rows.specs.Worked.{refusal_of, numbers_of};
 ghost use Rattle.sides.specs.Lent.{side_of};
-ghost use Rattle.reduction.specs.Answer.{step_answer};
+ghost use Rattle.reduction.specs.Answer.{told, progress_at, step_answer};
 ghost use Rattle.reduction.specs.Progress.{Ready, Came, state_of, answer_of, start_progress, dropped_progress, settled_progress, shifted_progress};
 ghost use Rattle.reduction.specs.NewRows.{saved, numbers_in};
 ghost use Rattle.reduction.specs.Dropping.{dropped};
@@ -41,6 +41,13 @@ pub struct Progress {
     pub shifts: usize,
 }
 
+// A refusal, and how far the run had come at it: the stores are those of this progress.
+#[derive(Clone, Copy)]
+pub struct Stop {
+    pub refusal: Refusal,
+    pub progress: Progress,
+}
+
 impl Progress {
     // No row is settled at the start (SCOPE 2.2).
     pub fn start(equations: usize, count: usize) -> Progress
@@ -52,6 +59,16 @@ impl Progress {
             order: [0; COLUMNS],
             count,
             shifts: 0,
+        }
+    }
+
+    // A refusal at this progress.
+    pub fn stopped(self, refusal: Refusal) -> Stop
+        ensures { result ≡ record { refusal = refusal; progress = self } }
+    {
+        Stop {
+            refusal,
+            progress: self,
         }
     }
 
@@ -77,20 +94,24 @@ impl Progress {
     }
 }
 
-// The new row in the place of row i, or the refusal.
+// The new row in the place of row i, or the refusal at the same progress.
 pub fn put_limited(
     rows: &mut [i64],
     i: usize,
     worked: Result<WorkingRow, Refusal>,
     next: Progress,
-) -> Result<Progress, Refusal>
+) -> Result<Progress, Stop>
     requires { (i * row_length + row_length ≤ length rows.old) × IfOk worked Full }
     ensures rows_after { rows.new ≡ saved rows.old i (refusal_in worked) (numbers_in worked) }
-    ensures value { step_answer result next ≡ answer_of (refusal_in worked) next }
+    ensures value { step_answer (told result) (progress_at result) ≡ answer_of (refusal_in worked) next }
 {
-    let row = worked?;
-    working_rows::stored::save(rows, i * ROW, row);
-    Ok(next)
+    match worked {
+        Ok(row) => {
+            working_rows::stored::save(rows, i * ROW, row);
+            Ok(next)
+        }
+        Err(refusal) => Err(next.stopped(refusal)),
+    }
 }
 
 // The multipliers of rule 2, from the entries of both rows in column c, put into g and h: the roots of g, each with how often it occurs
@@ -116,13 +137,13 @@ pub fn put_multipliers_at(
 }
 
 // Rule 6: the blocks move up by one, with n + 1 for n, and the shift is counted (SCOPE 2.61, 2.63, 2.65).
-fn shift_step(rows: &mut [i64], width: usize, p: Progress) -> Result<Progress, Refusal>
+fn shift_step(rows: &mut [i64], width: usize, p: Progress) -> Result<Progress, Stop>
     requires { (p.settled * row_length + row_length ≤ length rows.old) × T (every small (numbers_at rows.old p.settled))
         × (width ≡ Rows.width (row_of (numbers_at rows.old p.settled))) × (p.shifts < 2 ^ 32) }
     ensures rows_after { rows.new
         ≡ saved rows.old p.settled (refusal_of (shifted_row_of (numbers_at rows.old p.settled)))
         (numbers_of (shifted_row_of (numbers_at rows.old p.settled))) }
-    ensures value { step_answer result (shifted_progress p)
+    ensures value { step_answer (told result) (progress_at result)
         ≡ answer_of (refusal_of (shifted_row_of (numbers_at rows.old p.settled))) (shifted_progress p) }
 {
     let i = p.settled;
@@ -156,7 +177,7 @@ fn combine_step(
     width: usize,
     other: usize,
     p: Progress,
-) -> Result<Progress, Refusal>
+) -> Result<Progress, Stop>
     requires ready { Ready rows.old relations.old p × (p.settled < p.rows) × (j < p.settled) }
     requires t { T (not (is_zero_of (met_entries rows.old p j))) }
     requires width_value { (width ≡ Rows.width (row_of (numbers_at rows.old p.settled)))
@@ -174,7 +195,7 @@ fn combine_step(
     let found = put_multipliers_at(&mut g, &mut h, target, pivot, c);
     let count = p.count + found.count;
     if 16 < count {
-        return Err(Refusal::TooManyRelations);
+        return Err(p.stopped(Refusal::TooManyRelations));
     }
     sides::listing::list_roots(relations, p.count, found, side, target);
     let row = working_rows::stored::load(rows, i * ROW, width);
@@ -191,7 +212,7 @@ fn eliminate_step(
     width: usize,
     span: usize,
     p: Progress,
-) -> Result<Progress, Refusal>
+) -> Result<Progress, Stop>
     requires ready { Ready rows.old relations.old p × (p.settled < p.rows) × (j < p.settled)
         × (width ≡ Rows.width (row_of (numbers_at rows.old p.settled))) }
     requires t { T (not (is_zero_of (met_entries (narrowed rows.old p.settled j) p j))) × (span ≤ most_span)
@@ -218,7 +239,7 @@ pub fn step(
     side: Side,
     span: usize,
     p: Progress,
-) -> Result<Progress, Refusal>
+) -> Result<Progress, Stop>
     requires ready { Ready rows.old relations.old p × (p.settled < p.rows) × (p.shifts < 2 ^ 32) }
     requires span_le_most_span { (span ≤ most_span) × Unused column_count span (state_of rows.old relations.old p) }
     ensures { Came step_answer p.rows rows.old relations.old rows.new relations.new (p.shifts + 1) result
@@ -230,7 +251,7 @@ pub fn step(
         if crate::looking::side_zero_at(rows, i) {
             return Ok(drop_step(rows, p));
         }
-        return Err(Refusal::Contradiction);
+        return Err(p.stopped(Refusal::Contradiction));
     }
     let j = crate::looking::met_at(rows, i, p.order, i);
     if j < i {

@@ -10,19 +10,20 @@
 --   outcome-refused              an answer with a refusal
 --   work-refused, work-ended     a step is refused; the end
 --   left-held, left-cleared      what is left of a replay that is not refused, and of one that is
-use Rattle.std.specs.Prelude.{ℕ, zero, suc, ◌≡◌, refl, ◌≢◌, Bool, List, ℤ, Result}
+use Rattle.std.specs.Prelude.{ℕ, zero, suc, ◌*◌, ◌≡◌, refl, ◌≢◌, Bool, List, ℤ, Result}
 use Rattle.std.proofs.Math.Nat.{le_trans}
 use Rattle.std.proofs.Common.{sym, ◌∙◌}
 use Rattle.std.proofs.Math.Path.{ap, ap₂}
 use Rattle.lists.specs.Overwritten.{overwrite}
-use Rattle.refusals.specs.declared.Refusal.{Refusal}
+use Rattle.rules.specs.Limits.{relation_length}
 use Rattle.rules.specs.Calls.{zeros}
 use Rattle.rules.specs.Elimination.{State, Outcome, going, refused, and_then}
-use Rattle.rules.specs.Stores.{row_need, relation_need}
+use Rattle.rules.specs.Stores.{row_need}
 use Rattle.sides.specs.StoreStates.{kept_then}
 use Rattle.reduction.specs.declared.step.Progress.{Progress}
+use Rattle.reduction.specs.declared.step.Stop.{Stop}
 use Rattle.reduction.specs.Answer as Answer
-use Rattle.reduction.specs.Answer.{run_answer}
+use Rattle.reduction.specs.Answer.{told, progress_at, run_answer}
 use Rattle.reduction.specs.Progress.{Ready, Reached, state_of, outcome_at, answer_of, start_progress}
 use Rattle.reduction.specs.Progress as Progress
 use Rattle.reduction.specs.Dropping.{freed-then, kept_more}
@@ -40,10 +41,9 @@ pub record Worked (rows relations rows' relations' : List ℤ) (first : Progress
   pub reached : Reached first.rows rows relations rows' relations' most_steps o x
   pub finished : Finished o
 
--- The same of its result: with a refusal the stores are those of the progress `left`.
-pub record WorkedTo (rows relations rows' relations' : List ℤ) (first : Progress) (r : Result Progress Refusal) (x : Outcome) : Type 0 where
-  pub left : Progress
-  pub worked : Worked rows relations rows' relations' first (run_answer r left) x
+-- The same of its result: with a refusal the stores are those of the progress at it.
+abbrev pub WorkedTo : List ℤ → List ℤ → List ℤ → List ℤ → Progress → Result Progress Stop → Outcome → Type 0
+WorkedTo rows relations rows' relations' first r x = Worked rows relations rows' relations' first (run_answer (told r) (progress_at r)) x
 
 pub record Left (rows relations rows' relations' : List ℤ) (first : Progress) (o : Answer.Outcome) (x : Outcome) : Type 0 where
   pub ran : RanWithin most_steps first.rows rows relations rows' relations' o x
@@ -108,7 +108,7 @@ left-held ready w e = record { ran = ran-held ready.rows-within.long w.reached e
 
 pub left-cleared : {rows relations rows₁ relations₁ rows₂ relations₂ : List ℤ} {first : Progress} {o : Answer.Outcome} {x : Outcome}
     → Ready rows relations first → Worked rows relations rows₁ relations₁ first o x → o.refusal ≢ 0
-    → rows₂ ≡ overwrite (zeros (row_need first.rows)) rows₁ → relations₂ ≡ overwrite (zeros relation_need) relations₁
+    → rows₂ ≡ overwrite (zeros (row_need first.rows)) rows₁ → relations₂ ≡ overwrite (zeros (o.progress.count * relation_length)) relations₁
     → Left rows relations rows₂ relations₂ first (answer_of o.refusal (start_progress first.rows 0)) x
 left-cleared ready w n e f =
     record {

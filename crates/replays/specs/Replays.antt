@@ -13,13 +13,13 @@ use Rattle.std.proofs.Math.Nat.{le_trans}
 use Rattle.std.proofs.Math.Path.{sym, ap, ap₂, subst}
 use mathlib.Core.List.{List, []}
 use Rattle.lists.specs.Taken.{drop-next}
-use Rattle.refusals.specs.declared.Refusal.{Refusal}
 use Rattle.rules.specs.Stores.{row_need, relation_need}
 use Rattle.rules.specs.Elimination.{State, Outcome, going, refused, and_then}
 use Rattle.sides.specs.StoreStates.{kept_same, kept_then}
 use Rattle.reduction.specs.declared.step.Progress.{Progress}
+use Rattle.reduction.specs.declared.step.Stop.{Stop}
 use Rattle.reduction.specs.Answer as Answer
-use Rattle.reduction.specs.Answer.{step_answer}
+use Rattle.reduction.specs.Answer.{told, progress_at, step_answer}
 use Rattle.reduction.specs.Progress.{Ready, Reached, state_of, outcome_of, outcome_at, answer_of}
 use Rattle.reduction.specs.Dropping.{freed-none, freed-then, kept_more}
 use Rattle.log_steps.specs.Logs.{most_steps, change_of, changed_if, replayed}
@@ -36,10 +36,9 @@ pub record Replayed (rows relations rows' relations' : List ℤ) (first : Progre
   pub goes_on : o.done ≡ false
   pub unsettled : o.progress.settled ≡ 0
 
--- The same of its result: with a refusal the stores are those of the progress `left`.
-pub record ReplayedTo (rows relations rows' relations' : List ℤ) (first : Progress) (r : Result Progress Refusal) (x : Outcome) : Type 0 where
-  pub left : Progress
-  pub replayed : Replayed rows relations rows' relations' first (step_answer r left) x
+-- The same of its result: with a refusal the stores are those of the progress at it.
+abbrev pub ReplayedTo : List ℤ → List ℤ → List ℤ → List ℤ → Progress → Result Progress Stop → Outcome → Type 0
+ReplayedTo rows relations rows' relations' first r x = Replayed rows relations rows' relations' first (step_answer (told r) (progress_at r)) x
 
 outcome-refused : (n : ℕ) (d : Bool) (s : State) → n ≢ 0 → outcome_of n d s ≡ refused n
 unfolding outcome_of

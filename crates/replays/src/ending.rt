@@ -3,13 +3,13 @@ ghost use Rattle.std.specs.Prelude.{◌≡◌, List, map, ◌≤◌, ℤ, pos, n
 ghost use Rattle.std.specs.Int.Signed.{le_z};
 ghost use Rattle.lists.specs.Tests.{every};
 ghost use Rattle.rules.specs.Limits.{column_count};
-ghost use Rattle.reduction.specs.Answer.{run_answer};
+ghost use Rattle.reduction.specs.Answer.{told, progress_at, run_answer};
 ghost use Rattle.reduction.specs.Progress.{Ready, state_of};
 ghost use Rattle.log_steps.specs.Logs as Logs;
 ghost use Rattle.log_steps.specs.StoreChanges.{Begun};
 ghost use Rattle.replays.specs.Endings.{Ended};
 
-use reduction::step::Progress;
+use reduction::step::{Progress, Stop};
 use refusals::Refusal;
 use stores::lengths::COLUMNS;
 
@@ -51,25 +51,20 @@ fn order_holds(m: usize, w: usize, numbers: &[i64], named: [usize; COLUMNS]) -> 
 }
 
 // What is accepted has the columns of the log (SCOPE 13.3, 13.31, 13.32).
-pub(crate) fn finish(
-    rows: &[i64],
-    m: usize,
-    numbers: &[i64],
-    p: Progress,
-) -> Result<Progress, Refusal>
+pub(crate) fn finish(rows: &[i64], m: usize, numbers: &[i64], p: Progress) -> Result<Progress, Stop>
     requires { Begun rows.now p × (m ≤ column_count) × (length numbers.now ≡ column_count) }
     ensures { (relations : List ℤ) → Ready rows.now relations p
-        → Ended rows.now relations p (run_answer result p)
+        → Ended rows.now relations p (run_answer (told result) (progress_at result))
         (Logs.ordered m numbers.now (state_of rows.now relations p)) }
 {
     let w = p.rows;
     let named = sizes_of(numbers);
     if !order_holds(m, w, numbers, named) {
-        return Err(Refusal::WrongLog);
+        return Err(p.stopped(Refusal::WrongLog));
     }
     let order = steps::checks::from_zero(named, w);
     if !steps::checks::pivots_right(rows, order, w) {
-        return Err(Refusal::WrongLog);
+        return Err(p.stopped(Refusal::WrongLog));
     }
     Ok(Progress {
         settled: w,

@@ -13,7 +13,7 @@ ghost use Rattle.replays.specs.ReplayWork.{outcome_of, WorkedTo, Left};
 
 use given::Step;
 use log_steps::lengths::{G, H, STEP};
-use reduction::step::Progress;
+use reduction::step::{Progress, Stop};
 use refusals::Refusal;
 use stores::lengths::COLUMNS;
 
@@ -27,13 +27,16 @@ fn make_step(
     span: usize,
     x: &[i64],
     p: Progress,
-) -> Result<Progress, Refusal>
+) -> Result<Progress, Stop>
     requires ready { Ready rows.old relations.old p × (p.settled ≡ 0) × (span ≤ most_span) × (p.shifts < 2 ^ 32) }
     requires x_len { length x.now ≡ Logs.step_length }
     ensures { SteppedTo rows.old relations.old rows.new relations.new p result
         (Logs.changed_if span (state_of rows.old relations.old p) (Logs.change_of x.now)) }
 {
-    let step = given::step_of(x)?;
+    let step = match given::step_of(x) {
+        Ok(step) => step,
+        Err(refusal) => return Err(p.stopped(refusal)),
+    };
     match step {
         Step::Exchange(i, j) => log_steps::changing::exchange_rows(rows, i, j, p),
         Step::Combination(i, j, d) => {
@@ -53,7 +56,7 @@ fn replay_steps(
     steps: usize,
     log: &[i64],
     first: Progress,
-) -> Result<Progress, Refusal>
+) -> Result<Progress, Stop>
     requires ready { Ready rows.old relations.old first × (first.settled ≡ 0) × (first.shifts ≡ 0) × (span ≤ most_span)
         × (steps ≤ Logs.most_steps) }
     requires steps_in_bounds { steps * Logs.step_length ≤ length log.now }
@@ -78,7 +81,7 @@ fn work(
     steps: usize,
     log: &[i64],
     first: Progress,
-) -> Result<Progress, Refusal>
+) -> Result<Progress, Stop>
     requires ready { Ready rows.old relations.old first × (first.settled ≡ 0) × (first.shifts ≡ 0) × (span ≤ most_span)
         × (steps ≤ Logs.most_steps) }
     requires m_le_column_count { (m ≤ column_count) × (log_need steps ≤ length log.now) }
@@ -109,9 +112,9 @@ pub fn replay_on(
 {
     match work(rows, relations, m, span, steps, log, first) {
         Ok(p) => Ok(p),
-        Err(refusal) => {
-            reduction::run::clear(rows, relations, first.rows);
-            Err(refusal)
+        Err(stop) => {
+            reduction::run::clear(rows, relations, first.rows, stop.progress.count);
+            Err(stop.refusal)
         }
     }
 }

@@ -112,11 +112,14 @@ fn print_roots(rt: &impl Print, p: &[i64])
 {
     print(rt, b"roots");
     print_list(rt, multiplicities::roots_with(p));
-    if let (Some(least), Some(most)) = (roots::smallest_root(p), roots::largest_root(p)) {
+    if let (Some(least), Some(most)) = (
+        multiplicities::smallest_with(p),
+        multiplicities::largest_with(p),
+    ) {
         print(rt, b" from");
-        print_signed(rt, least);
+        print_signed(rt, least.value);
         print(rt, b" to");
-        print_signed(rt, most);
+        print_signed(rt, most.value);
     }
     print(rt, b"\n");
 }

@@ -9,7 +9,7 @@ ghost use Rattle.reading.specs.ReadCalls as ReadCalls;
 ghost use Rattle.writing.specs.WriterChecks.{call_of};
 
 pub use reading::sheet::Sheet;
-use refusals::Refusal;
+pub use refusals::Refusal;
 
 // A sheet read into lent stores. On a refusal they are unchanged (SCOPE 4.43); numbers past the needed part stay
 // (SCOPE 3.12).

@@ -5,7 +5,7 @@
 --   Relisted count row l a b   the relation store b is the store a with those relations listed past the first `count`
 --
 -- Main statements
---   listed-first, listed-last  the k-th root in the order of a side
+--   listed-first, listed-last  the k-th number in the order of a side; held-first, held-last of roots in their array
 --   relisted-none, relisted-more   no root, and one root more
 --   every-listing              what all roots pass, they pass in the order of a side
 use Rattle.std.specs.Prelude.{ℕ, suc, ◌+◌, ◌*◌, ◌-◌, ◌≤◌, ◌<◌, ◌≡◌, refl, Bool, List, [], ◌∷◌, ◌++◌, map, T, ℤ, pos, nat_abs, length, take, get_or}
@@ -26,6 +26,19 @@ use Rattle.sides.specs.StoreStates.{relations_of-paste, kept_same, kept_then, ke
 
 -- ---- the roots in the order of a side
 
+pub listed-first : (l : List ℤ) (n k : ℕ) → k < n → get_or (listing leading (take n l)) k (pos 0) ≡ get_or l k (pos 0)
+unfolding listing
+listed-first l n k h = get_or-take n l k (pos 0) h
+
+pub listed-last : (l : List ℤ) (n k : ℕ) → n ≤ length l → k < n → get_or (listing trailing (take n l)) k (pos 0) ≡ get_or l (n - 1 - k) (pos 0)
+unfolding listing
+listed-last l n k g h =
+    let size : length (take n l) ≡ n = length-take-le n l g in
+    let place : n - suc k ≡ n - 1 - k = omega arith in
+    get_or_reverse (pos 0) (take n l) k (rw size h) ∙ ap (λ j. get_or (take n l) (j - suc k) (pos 0)) size
+    ∙ get_or-take n l (n - suc k) (pos 0) (omega arith) ∙ ap (λ j. get_or l j (pos 0)) place
+
+-- The same of roots in their array.
 module _ (w : RootsWith) (long : length w.roots ≡ 16) (few : w.count ≤ 16) where
   pub length-held : length (roots_held w) ≡ w.count
   length-held = length-map (take w.count w.roots) (λ r. r.value) ∙ length-take-le w.count w.roots (omega arith)
@@ -35,14 +48,14 @@ module _ (w : RootsWith) (long : length w.roots ≡ 16) (few : w.count ≤ 16) w
       get_or_map (λ r. r.value) (take w.count w.roots) k no_root (pos 0) (subst (λ n. k < n) (sym (length-take-le w.count w.roots (omega arith))) h)
       ∙ ap (λ r. r.value) (get_or-take w.count w.roots k no_root h)
 
-  pub listed-first : (k : ℕ) → k < w.count → get_or (listing leading (roots_held w)) k (pos 0) ≡ (get_or w.roots k no_root).value
+  pub held-first : (k : ℕ) → k < w.count → get_or (listing leading (roots_held w)) k (pos 0) ≡ (get_or w.roots k no_root).value
   unfolding listing
-  listed-first k h = held-at k h
+  held-first k h = held-at k h
 
-  pub listed-last : (k : ℕ) → k < w.count
+  pub held-last : (k : ℕ) → k < w.count
       → get_or (listing trailing (roots_held w)) k (pos 0) ≡ (get_or w.roots (w.count - 1 - k) no_root).value
   unfolding listing
-  listed-last k h =
+  held-last k h =
       let place : length (roots_held w) - suc k ≡ w.count - 1 - k = omega (arith, length-held) in
       get_or_reverse (pos 0) (roots_held w) k (rw length-held h) ∙ ap (λ j. get_or (roots_held w) j (pos 0)) place
       ∙ held-at (w.count - 1 - k) (omega arith)

@@ -5,6 +5,7 @@
 --
 -- Main statements
 --   option-of, answered-option   an answer and its root
+--   answered-value         an answer with how often its root occurs, the root alone
 --   first-missing, second-missing, second-larger, first-larger     the larger of two answers, by the tests that tell it
 --   furthest-more          one list of roots more
 --   diagonals-small        the diagonal polynomials are within ±C as the store is
@@ -14,8 +15,9 @@ use Rattle.std.proofs.Math.Path.{ap}
 use mathlib.Core.List.{List, [], ◌∷◌, ◌++◌, map, map-append, flatten, append-nil}
 use Rattle.std.proofs.Math.Option.{Option, none, some}
 use Rattle.std.specs.Prelude as Prelude
-use Rattle.std.specs.Prelude.{None, Some, refl}
+use Rattle.std.specs.Prelude.{None, Some, refl, option_map}
 use Rattle.std.specs.Int.Signed.{le_z}
+use Rattle.algebra.specs.Polynomials.{Polynomial}
 use Rattle.lists.specs.Everywhere.{All, get_or-all}
 use Rattle.lists.specs.Joined.{flatten-append}
 use Rattle.lists.specs.Tests.{every}
@@ -23,6 +25,7 @@ use Rattle.rules.specs.Limits.{small, most_span}
 use Rattle.rules.specs.Stores.{row_need}
 use Rattle.rules.specs.Elimination.{Side, leading, further, furthest}
 use Rattle.roots.specs.RootSearch.{answered}
+use Rattle.multiplicities.specs.Counts.{answered_with}
 use Rattle.sides.specs.FurthestRoots.{further_of, furthest-append}
 use Rattle.sides.specs.Lent.{Within}
 use Rattle.sides.specs.ReportLaws.{diagonals, length-diagonals, diagonal-at, diagonal-small}
@@ -39,6 +42,10 @@ answered-option (Some r) = refl
 pub option-of : (o : Option ℤ) → option_of (answered o) ≡ o
 option-of none = refl
 option-of (some r) = refl
+
+pub answered-value : (p : Polynomial) (o : Option ℤ) → option_map (λ r. r.value) (answered_with p o) ≡ answered o
+answered-value p none = refl
+answered-value p (some r) = refl
 
 module _ (a b : ℤ) where
   pub second-larger : le_z a b ≡ true → Some b ≡ answered (further_of leading (some a) (some b))

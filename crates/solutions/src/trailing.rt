@@ -62,7 +62,8 @@ fn last_root(store: &[i64], settled: usize, order: [usize; COLUMNS], span: usize
     for (j, column) in order[..settled].iter().enumerate() {
         let from = sides::report::diagonal_at(j, *column, Side::Trailing, span);
         let to = from + COEFFICIENTS;
-        answer = larger(answer, roots::largest_root(&store[from..to]));
+        let most = multiplicities::largest_with(&store[from..to]);
+        answer = larger(answer, most.map(|root| root.value));
     }
     answer
 }

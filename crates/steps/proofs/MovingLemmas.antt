@@ -150,19 +150,16 @@ module _ {first : Progress} {rows relations rows' relations' : List ℤ} {p : Pr
   unfolding later standing
   move-stops budget within over =
       record {
-        came = record {
-          left = p;
-          reached =
-              record {
-                outcome = sym (ap (λ w. w.outcome) walk);
-                fewer = m.reached.fewer;
-                freed = m.reached.freed;
-                rows-kept = m.reached.rows-kept;
-                relations-kept = m.reached.relations-kept;
-                few-shifts = omega (arith, moving-shifts);
-                ready = m.reached.ready;
-              };
-        };
+        came =
+            record {
+              outcome = sym (ap (λ w. w.outcome) walk);
+              fewer = m.reached.fewer;
+              freed = m.reached.freed;
+              rows-kept = m.reached.rows-kept;
+              relations-kept = m.reached.relations-kept;
+              few-shifts = omega (arith, moving-shifts);
+              ready = m.reached.ready;
+            };
         taken = sym (add-zero taken) ∙ sym (ap (λ w. w.taken) walk);
       }
     where

@@ -7,10 +7,10 @@
 --   stands                     what is left of a run
 --   call-moved                 the whole call of a state that passes the checks
 use Prim.Native.Nat.{ℕ, zero, suc, ◌≤◌}
-use Rattle.std.proofs.Common.{Ok, le_trans, le_of_eq, le_antisymm, mul-le-mul_left, sym, ◌∙◌, leb-true}
+use Rattle.std.proofs.Common.{Ok, Err, le_trans, le_of_eq, le_antisymm, mul-le-mul_left, sym, ◌∙◌, leb-true}
 use Rattle.std.specs.Prelude.{◌≡◌, refl, ◌≢◌, leb, true, false, not, List, T, ℤ, length}
 use Rattle.std.proofs.Math.Path.{ap, subst}
-use Rattle.lists.specs.Everywhere.{member-all}
+use Rattle.lists.specs.Everywhere.{All, member-all}
 use Rattle.lists.specs.Padded.{pad_to, length-pad_to, take-pad_to}
 use Rattle.rules.specs.Limits.{column_count, most_equations}
 use Rattle.rules.specs.Rows.{entry, leading_block}
@@ -29,7 +29,10 @@ use Rattle.sides.specs.ReportLaws.{diagonal-settled}
 use Rattle.reduction.specs.Progress.{Ready, state_of, outcome_of, outcome_at}
 use Rattle.reduction.specs.Ran.{progress_of, answer_for_of, rows_after_of, relations_after_of}
 use Rattle.reduction.specs.declared.step.Progress.{Progress}
+use Rattle.reduction.specs.declared.step.Stop.{Stop}
+use Rattle.std.specs.Prelude as Prelude
 use Rattle.reduction.specs.Answer as Answer
+use Rattle.reduction.specs.Answer.{told}
 use Rattle.reduction.specs.Progress.{final_answer}
 use Rattle.runs.specs.CallLaws.{few-blocks, Checked, checked}
 use Rattle.steps.specs.Budgets.{Walk, steps, Walked, used-up, at-end, stopped, led-chain, row-of, refusal-number}
@@ -174,12 +177,12 @@ unfolding diagonal_place entry leading_block
 triangular-nonzero D s t =
     member-all (λ p. T (not (is_zero_of p))) (diagonal leading D s) (nonzero-diagonal leading D s (λ j h k. (t.pivots j k).diagonal))
 
--- What a run has left that is not refused.
-pub stands : (D : ℕ) {first p : Progress} {budget taken : ℕ} {rows relations rows' relations' : List ℤ}
+-- What a run has left that is not refused,
+going-stands : (D : ℕ) {first p : Progress} {budget taken : ℕ} {rows relations rows' relations' : List ℤ}
     → Triangular (state_of rows relations first) → MovedTo first budget rows relations rows' relations' (record { run = Ok p; taken = taken })
     → Stands D rows' p
 unfolding outcome_of state_of
-stands D {first} {p} {budget} {taken} {rows} {relations} {rows'} {relations'} t m =
+going-stands D {first} {p} {budget} {taken} {rows} {relations} {rows'} {relations'} t m =
     record {
       rows-within = ready.rows-within;
       few-settled = ready.few-settled;
@@ -204,10 +207,34 @@ stands D {first} {p} {budget} {taken} {rows} {relations} {rows'} {relations'} t 
     all_settled : leb p.rows p.settled ≡ true → p.rows ≡ p.settled
     all_settled d = le_antisymm (leb-true p.rows p.settled d) ready.settled
 
+-- and the same of any run: after a refusal the rows are those of a run that has not begun.
+stands-by : (D : ℕ) {first : Progress} {budget taken : ℕ} {rows relations rows' relations' : List ℤ} (run : Prelude.Result Progress Stop)
+    → Triangular (state_of rows relations first)
+    → MovedTo first budget rows relations rows' relations' (record { run = run; taken = taken })
+    → Stands D rows' (final_answer first.rows (told run)).progress
+unfolding diagonal rows_of All
+stands-by D (Ok p) t m = going-stands D t m
+stands-by D (Err s) t m =
+    let ready = m.ran.reached.ready in
+    record {
+      rows-within = ready.rows-within;
+      few-settled = ready.few-settled;
+      four = ready.four;
+      columns = ready.columns;
+      all_settled = λ d. le_antisymm (leb-true _ _ d) ready.settled;
+      nonzero = λ d. tt;
+    }
+
+-- What a run has left.
+pub stands : (D : ℕ) {first : Progress} {budget : ℕ} {rows relations rows' relations' : List ℤ} {r : Moved}
+    → Triangular (state_of rows relations first) → MovedTo first budget rows relations rows' relations' r
+    → Stands D rows' (final_answer first.rows (told r.run)).progress
+stands D {r = r} t m = stands-by D r.run t m
+
 pub call-moved : (budget : ℕ) (x : Held) (row_store relation_store : List ℤ) → length x.order ≡ column_count
     → check_state_of x row_store relation_store ≡ 0 → {first : Progress} {rows' relations' : List ℤ} {r : Moved}
     → MovedTo first budget row_store relation_store rows' relations' r → first ≡ progress_in x → (state : Held) (run : Result)
-    → let o = final_answer first.rows r.run in state ≡ state_after_of x.sizes o.refusal o.progress
+    → let o = final_answer first.rows (told r.run) in state ≡ state_after_of x.sizes o.refusal o.progress
     → run ≡ run_after (span x.sizes) (outcome_at rows' relations' o)
     → record {
       result = record { steps = r.taken; finished = o.done; state = state; run = run };
@@ -235,7 +262,7 @@ call-moved budget x row_store relation_store four passed {first} {rows'} {relati
     ∙ ap (after_state_check budget x row_store relation_store) (sym passed)
   where
     o : Answer.Outcome
-    o = final_answer first.rows r.run
+    o = final_answer first.rows (told r.run)
 
     m : MovedTo (progress_in x) budget row_store relation_store rows' relations' r
     m = subst (λ p. MovedTo p budget row_store relation_store rows' relations' r) same left

@@ -8,23 +8,25 @@
 -- Main statements
 --   move-starts               the loop's start
 --   moved-held, moved-cleared what a run gives that is not refused, and one that is
+--   halted                    the stores where a step is refused
 --   moved-as                  the same where it is known which of both it is
-use Rattle.std.specs.Prelude.{ℕ, ◌≡◌, refl, List, ℤ, Result}
+use Rattle.std.specs.Prelude.{ℕ, ◌*◌, ◌≡◌, refl, List, ℤ, Result}
 use Rattle.std.proofs.Common.{Ok, Err}
 use Rattle.std.proofs.Math.Nat.{le_refl}
 use Rattle.std.proofs.Math.Path.{sym, subst}
-use Rattle.refusals.specs.declared.Refusal.{Refusal}
 use Rattle.refusals.specs.Refusals.{number-nonzero}
+use Rattle.rules.specs.Limits.{relation_length}
 use Rattle.rules.specs.Stores.{row_need, relation_need}
 use Rattle.rules.specs.Calls.{zeros}
 use Rattle.lists.specs.Overwritten.{overwrite}
 use Rattle.rules.specs.Elimination.{leading, going}
 use Rattle.sides.specs.StoreStates.{kept_same}
-use Rattle.reduction.specs.Answer.{run_answer}
+use Rattle.reduction.specs.Answer.{told, progress_at, run_answer}
 use Rattle.reduction.specs.Progress.{Ready, Reached, Came, state_of, outcome_of, answer_of, most_steps, final_answer}
 use Rattle.reduction.specs.Dropping.{freed-none}
 use Rattle.reduction.specs.Ran.{Ran, ran-held, ran-cleared}
 use Rattle.reduction.specs.declared.step.Progress.{Progress}
+use Rattle.reduction.specs.declared.step.Stop.{Stop}
 use Rattle.steps.specs.Budgets.{Walk, steps, Led, stays}
 use Rattle.steps.specs.declared.moving.Moved.{Moved}
 
@@ -43,7 +45,7 @@ pub record Moves (first : Progress) (budget : ℕ) (rows relations rows' relatio
   pub taken : r.taken ≡ (walk_of first budget rows relations).taken
 
 pub record MovedTo (first : Progress) (budget : ℕ) (rows relations rows' relations' : List ℤ) (r : Moved) : Type 0 where
-  pub ran : Ran first.rows rows relations rows' relations' (final_answer first.rows r.run) (walk_of first budget rows relations).outcome
+  pub ran : Ran first.rows rows relations rows' relations' (final_answer first.rows (told r.run)) (walk_of first budget rows relations).outcome
   pub taken : r.taken ≡ (walk_of first budget rows relations).taken
 
 pub move-starts : (first : Progress) (rows relations : List ℤ) → Ready rows relations first
@@ -71,27 +73,32 @@ module _ {first : Progress} {budget : ℕ} {rows relations : List ℤ} {r : Move
       → MovedTo first budget rows relations rows' relations' r
   moved-held {rows'} {relations'} e m =
       record {
-        ran = subst (λ run. Ran first.rows rows relations rows' relations' (final_answer first.rows run) (walk_of first budget rows relations).outcome) (sym e)
+        ran = subst (λ run. Ran first.rows rows relations rows' relations' (final_answer first.rows (told run)) (walk_of first budget rows relations).outcome) (sym e)
             (ran-held ready.rows-within.long
-            (subst (λ run. Reached first.rows rows relations rows' relations' most_steps (run_answer run m.came.left) (walk_of first budget rows relations).outcome) e m.came.reached)
+            (subst (λ run. Reached first.rows rows relations rows' relations' most_steps (run_answer (told run) (progress_at run)) (walk_of first budget rows relations).outcome) e m.came)
             refl);
         taken = m.taken;
       }
 
-  pub moved-cleared : {rows₁ relations₁ rows₂ relations₂ : List ℤ} {n : Refusal} → r.run ≡ Err n
+  -- The stores where a step is refused.
+  pub halted : {rows₁ relations₁ : List ℤ} {n : Stop} → r.run ≡ Err n → Moves first budget rows relations rows₁ relations₁ r
+      → Reached first.rows rows relations rows₁ relations₁ most_steps (run_answer (told (Err n)) n.progress) (walk_of first budget rows relations).outcome
+  halted {rows₁} {relations₁} e m =
+      subst (λ run. Reached first.rows rows relations rows₁ relations₁ most_steps (run_answer (told run) (progress_at run)) (walk_of first budget rows relations).outcome) e m.came
+
+  pub moved-cleared : {rows₁ relations₁ rows₂ relations₂ : List ℤ} {n : Stop} → r.run ≡ Err n
       → Moves first budget rows relations rows₁ relations₁ r → rows₂ ≡ overwrite (zeros (row_need first.rows)) rows₁
-      → relations₂ ≡ overwrite (zeros relation_need) relations₁ → MovedTo first budget rows relations rows₂ relations₂ r
+      → relations₂ ≡ overwrite (zeros (n.progress.count * relation_length)) relations₁ → MovedTo first budget rows relations rows₂ relations₂ r
   moved-cleared {rows₁} {relations₁} {rows₂} {relations₂} {n} e m f g =
       record {
-        ran = subst (λ run. Ran first.rows rows relations rows₂ relations₂ (final_answer first.rows run) (walk_of first budget rows relations).outcome) (sym e)
+        ran = subst (λ run. Ran first.rows rows relations rows₂ relations₂ (final_answer first.rows (told run)) (walk_of first budget rows relations).outcome) (sym e)
             (ran-cleared ready.few-rows ready.rows-within.long
-            (subst (λ run. Reached first.rows rows relations rows₁ relations₁ most_steps (run_answer run m.came.left) (walk_of first budget rows relations).outcome) e m.came.reached)
-            (number-nonzero n) f g);
+            (halted e m) (number-nonzero n.refusal) f g);
         taken = m.taken;
       }
 
 -- What is known of the result, for each of its parts.
-pub moved-as : {first : Progress} {budget : ℕ} {rows relations rows' relations' : List ℤ} {r : Moved} {x : Result Progress Refusal}
+pub moved-as : {first : Progress} {budget : ℕ} {rows relations rows' relations' : List ℤ} {r : Moved} {x : Result Progress Stop}
     → r.run ≡ x → MovedTo first budget rows relations rows' relations' r
     → MovedTo first budget rows relations rows' relations' (record { run = x; taken = r.taken })
 moved-as {first} {budget} {rows} {relations} {rows'} {relations'} {r} e m =

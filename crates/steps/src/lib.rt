@@ -138,10 +138,10 @@ fn checked_steps(
             state: state_at(sizes, p),
             run: Ok(report_at(rows, sizes, p)),
         },
-        Err(refusal) => StepsResult {
+        Err(stop) => StepsResult {
             steps,
             state: no_state(),
-            run: Err(refusal),
+            run: Err(stop.refusal),
         },
     }
 }

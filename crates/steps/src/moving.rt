@@ -3,18 +3,17 @@ ghost use Rattle.std.specs.Prelude.{◌≡◌, ◌≤◌};
 ghost use Rattle.reduction.specs.Progress.{Ready};
 ghost use Rattle.steps.specs.Moving.{Moves, MovedTo};
 
-use reduction::step::{Progress, SPAN};
-use refusals::Refusal;
+use reduction::step::{Progress, SPAN, Stop};
 use sides::Side;
 
 // Where a run has come to, and the number of its steps, which a refusal tells too (SCOPE 8.1, 11.45).
 #[derive(Clone, Copy)]
 pub(crate) struct Moved {
-    pub run: Result<Progress, Refusal>,
+    pub run: Result<Progress, Stop>,
     pub taken: usize,
 }
 
-fn stopped(run: Result<Progress, Refusal>, taken: usize) -> Moved
+fn stopped(run: Result<Progress, Stop>, taken: usize) -> Moved
     ensures { result ≡ record { run = run; taken = taken } }
 {
     Moved { run, taken }
@@ -32,7 +31,7 @@ fn take_steps(rows: &mut [i64], relations: &mut [i64], first: Progress, budget: 
         }
         match reduction::step::step(rows, relations, Side::Leading, SPAN, p) {
             Ok(next) => p = next,
-            Err(refusal) => return stopped(Err(refusal), taken),
+            Err(stop) => return stopped(Err(stop), taken),
         }
     }
     stopped(Ok(p), budget)
@@ -51,8 +50,8 @@ pub(crate) fn run_on(
     let moved = take_steps(rows, relations, first, budget);
     match moved.run {
         Ok(_) => moved,
-        Err(_) => {
-            reduction::run::clear(rows, relations, first.rows);
+        Err(stop) => {
+            reduction::run::clear(rows, relations, first.rows, stop.progress.count);
             moved
         }
     }

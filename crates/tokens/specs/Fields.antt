@@ -5,14 +5,16 @@
 --   FoundIn                the same of a result with a number
 --   Judges, Follows        the calls of a judge give a judgement, and those of another function the separator after a value
 --   read_number_of, NumberAt  a number not yet judged
+--   closing                what is done with it: its judgement, and the separator that has to follow
 --
 -- Main statements
---   field-unread, field-refused, field-separated   a field is a number, its judgement and its separator
+--   closing-refused, closing-judged, closing-wrong, closing-right   the number's own refusal, its judgement and its separator, in that order
+--   field-unread, field-refused, field-separated, answers-field   a field is a number, its judgement and its separator
 --   field-judged          a number that was read as a field has passed its judgement
 --   then-cong, then-then, then-parts   one thing read after another
 --   between-zero          what a range lets through
 use Rattle.std.specs.Prelude.{◌≡◌, ℕ, zero, suc, ◌+◌, ◌-◌, ◌<◌, ◌≤◌, Bool, true, false, cond, ◌&&◌, T, List, [], ◌∷◌, length, drop, ℤ, pos, negsuc, neg_ℤ, ◌≤ℤ◌, FitsSigned, ◌==◌, ◌≢◌, int_le, nat_le, nat_lt, slice_index, slice_index_or, unsigned_abs}
-use Rattle.std.proofs.Common.{suc-ne-zero, add-one, arith, ◌∙◌, subst, eq-eqb, ne_eqb, leb-true, of_z, to_z, to_z-of_z}
+use Rattle.std.proofs.Common.{suc-ne-zero, add-one, arith, ap₂, ◌∙◌, subst, eq-eqb, ne_eqb, leb-true, of_z, to_z, to_z-of_z}
 use Rattle.std.proofs.Math.Path.{refl, sym, ap}
 use Rattle.std.proofs.Math.Bool.{and-false}
 use Rattle.std.proofs.Math.Seq.{slice, drop-cons, drop-length}
@@ -144,6 +146,11 @@ pub record NumberAt (bytes : List ℕ) (at : ℕ) (result : Result Found Refusal
   pub answer : read_in bytes (λ n. n.value) (λ n. n.at) result ≡ read_number_of (drop at bytes)
   pub separator : IfOk result (λ n. n.at < length bytes)
 
+-- What is done with a number that was read: its judgement, and the separator that has to follow.
+unfoldable pub closing : ℕ → ℕ → ℤ → List ℕ → Read ℤ
+unfolding then_read judged read_separator
+closing judgement separator v rest = then_read (judged judgement v rest) (read_separator separator)
+
 -- What cannot begin a number is 3, be a separator behind it or not (SCOPE 4.32, 4.33).
 not-begun : (w rest : List ℕ) → begins_number w ≡ false → read_word unjudged w rest ≡ fault 3
 unfolding read_word is_number
@@ -239,6 +246,24 @@ module _ (judge follow : ℤ → ℕ) where
           ∙ sym (field-is bytes ∙ then-got judged_then read
           ∙ then-got (λ u more. read_separator (follow u) u more) (ap (λ j. judged j v rest) z))
 
+  closing-field : (v : ℤ) (rest : List ℕ) (n : ℕ)
+      → closing n (follow v) v rest ≡ then_read (judged n v rest) (λ u more. read_separator (follow u) u more)
+  unfolding closing then_read judged
+  closing-field v rest zero = refl
+  closing-field v rest (suc n) = refl
+
+  -- What `separated` answers is a field, where it is told the judgement and the separator of the number.
+  pub answers-field : {bytes : List ℕ} {at : ℕ} {n : Found} {judgement separator : ℕ} {result : Result Found Refusal}
+      → NumberAt bytes at (Ok n) → judgement ≡ judge n.value → separator ≡ follow n.value
+      → FoundIn bytes result (then_read (read_in bytes (λ f. f.value) (λ f. f.at) (Ok n)) (closing judgement separator))
+      → FoundIn bytes result (field judge follow (drop at bytes))
+  unfolding read_in then_read judged_then
+  answers-field {bytes} {at} {n} {judgement} {separator} read j s a =
+      reads-as a
+      (ap₂ (λ j s. closing j s n.value (drop n.at bytes)) j s
+      ∙ closing-field n.value (drop n.at bytes) (judge n.value)
+      ∙ sym (field-is (drop at bytes) ∙ then-got judged_then (number-ok read)))
+
 -- The separator behind a number that was read.
 module _ (bytes : List ℕ) (at separator : ℕ) (v : ℤ) (inside : at < length bytes) where
   pub separator-wrong : (slice_index bytes at ≢ separator) → read_separator separator v (drop at bytes) ≡ fault 3
@@ -253,6 +278,44 @@ module _ (bytes : List ℕ) (at separator : ℕ) (v : ℤ) (inside : at < length
       ap (read_separator separator v) (drop-cons bytes at 0 inside)
       ∙ ap (λ t. cond t (got v (drop (suc at) bytes)) (fault 3)) (eq-eqb (slice_index bytes at) separator e)
       ∙ ap (λ k. got v (drop k bytes)) (sym (add-one at))
+
+module _ (bytes : List ℕ) (n : Result Found Refusal) (judgement separator : ℕ) where
+  -- The number's own refusal comes first, then its judgement, then the separator (SCOPE 4.33, 4.34, 4.36).
+  pub closing-refused : {r : Refusal} → n ≡ Err r
+      → then_read (read_in bytes (λ f. f.value) (λ f. f.at) n) (closing judgement separator) ≡ fault (refusal_number r)
+  unfolding read_in
+  closing-refused e = then-fault (closing judgement separator) (ap (read_in bytes (λ f. f.value) (λ f. f.at)) e)
+
+  module _ {f : Found} (read : n ≡ Ok f) where
+    closing-read : then_read (read_in bytes (λ f. f.value) (λ f. f.at) n) (closing judgement separator)
+        ≡ closing judgement separator f.value (drop f.at bytes)
+    unfolding read_in
+    closing-read = then-got (closing judgement separator) (ap (read_in bytes (λ f. f.value) (λ f. f.at)) read)
+
+    pub closing-judged : (judgement ≢ 0)
+        → then_read (read_in bytes (λ f. f.value) (λ f. f.at) n) (closing judgement separator) ≡ fault judgement
+    unfolding closing judged
+    closing-judged h = closing-read ∙ then-fault (read_separator separator) (fault-judged judgement h)
+      where
+        fault-judged : (j : ℕ) → (j ≢ 0) → judged j f.value (drop f.at bytes) ≡ fault j
+        fault-judged zero h = absurd (h refl)
+        fault-judged (suc j) h = refl
+
+    -- What was judged and passed has its separator still to follow.
+    module _ (passed : judgement ≡ 0) where
+      pub closing-passed : then_read (read_in bytes (λ f. f.value) (λ f. f.at) n) (closing judgement separator)
+          ≡ read_separator separator f.value (drop f.at bytes)
+      unfolding closing judged
+      closing-passed = closing-read ∙ then-got (read_separator separator) (ap (λ j. judged j f.value (drop f.at bytes)) passed)
+
+      module _ (inside : f.at < length bytes) where
+        pub closing-wrong : (slice_index bytes f.at ≢ separator)
+            → then_read (read_in bytes (λ f. f.value) (λ f. f.at) n) (closing judgement separator) ≡ fault 3
+        closing-wrong h = closing-passed ∙ separator-wrong bytes f.at separator f.value inside h
+
+        pub closing-right : slice_index_or bytes f.at 0 ≡ separator
+            → then_read (read_in bytes (λ f. f.value) (λ f. f.at) n) (closing judgement separator) ≡ got f.value (drop (f.at + 1) bytes)
+        closing-right e = closing-passed ∙ separator-right bytes f.at separator f.value inside e
 
 -- ---- laws of reading one thing after another
 

@@ -2,16 +2,16 @@
 // (SCOPE 4.2); each is judged, and has its separator (SCOPE 4.33, 4.34, 4.36).
 #![tactic(auto)]
 
-ghost use Rattle.std.specs.Prelude.{◌≡◌, ◌+◌, ◌-◌, ◌*◌, ◌^◌, ◌<◌, ◌≤◌, ℕ, ℤ, true, ◌&&◌, length, drop, pos, neg_ℤ, if◌then◌else◌, bit_xor, int_le, nat_lt, slice_index};
+ghost use Rattle.std.specs.Prelude.{◌≡◌, ◌+◌, ◌-◌, ◌*◌, ◌^◌, ◌<◌, ◌≤◌, ℕ, ℤ, true, ◌&&◌, length, drop, pos, neg_ℤ, IfOk, if◌then◌else◌, bit_xor, int_le, nat_lt, slice_index};
 ghost use Rattle.std.proofs.Math.Seq.{slice};
 ghost use Rattle.refusals.specs.Refusals.{refusal_in};
-ghost use Rattle.rules.specs.Numbers.{is_separator_of, is_digit_of, starts_right_of, read_separator, field, between, judge_small_of};
+ghost use Rattle.rules.specs.Numbers.{is_separator_of, is_digit_of, starts_right_of, then_read, field, between, judge_small_of};
 ghost use Rattle.rules.specs.Sheets.{always};
 ghost use Rattle.tokens.specs.Tokens.{DigitsStart, DigitsTo, Stopped, token_answer};
 ghost use Rattle.tokens.specs.Straight.{two_digits_of, four_digits_of, eight_digits_of, two_bytes_of, four_bytes_of};
 ghost use Rattle.tokens.specs.Straight.{digits_end, digits_from_of, digit_at_of, digits_at_of, long_at_of};
 ghost use Rattle.tokens.specs.Words.{four_word_of, eight_word_of, rest_stops, front_count_of, word_value_of, Begins};
-ghost use Rattle.tokens.specs.Fields.{NumberAt, FoundIn, Judges, Follows, read_number_of};
+ghost use Rattle.tokens.specs.Fields.{NumberAt, FoundIn, Judges, Follows, read_in, closing, read_number_of};
 
 use refusals::Refusal;
 
@@ -390,17 +390,26 @@ pub fn digits_at(bytes: &[u8], at: usize, separator: u8) -> Option<Found>
     })
 }
 
-// A number that was read, with its separator, a wrong one of which is 3 (SCOPE 4.36).
-pub fn separated(bytes: &[u8], n: Found, separator: u8) -> Result<Found, Refusal>
-    requires { n.at < length bytes.now }
-    ensures { FoundIn bytes.now result (read_separator separator n.value (drop n.at bytes.now)) }
+// A number that was judged, with its separator, a wrong one of which is 3 (SCOPE 4.36). The number's own refusal comes first, then its
+// judgement.
+pub fn separated(
+    bytes: &[u8],
+    n: Result<Found, Refusal>,
+    judgement: Result<(), Refusal>,
+    separator: u8,
+) -> Result<Found, Refusal>
+    requires { IfOk n (λ f. f.at < length bytes.now) }
+    ensures { FoundIn bytes.now result
+        (then_read (read_in bytes.now (λ f. f.value) (λ f. f.at) n) (closing (refusal_in judgement) separator)) }
 {
-    let at = n.at;
+    let found = n?;
+    judgement?;
+    let at = found.at;
     if bytes[at] != separator {
         return Err(Refusal::Malformed);
     }
     Ok(Found {
-        value: n.value,
+        value: found.value,
         at: at + 1,
     })
 }
@@ -418,8 +427,7 @@ pub fn any_field_at<J: Fn(i64) -> Result<(), Refusal>, S: Fn(i64) -> u8>(
         → FoundIn bytes.now result (field j follow (drop at bytes.now)) }
 {
     let n = number_at(bytes, at)?;
-    judge(n.value)?;
-    separated(bytes, n, separator(n.value))
+    separated(bytes, Ok(n), judge(n.value), separator(n.value))
 }
 
 // The same with one separator: most numbers are of one digit, which are read straight.

@@ -10,7 +10,7 @@
 --   checked           what holds where the checks give no refusal
 --   given-first, given-few   the columns that are given come first in the order argument
 --   sheet-given       the sheet that is written is the definition's
---   call-refused, call-checked, written-short, written-whole   the cases of a call
+--   call-refused, refused-by_name, call-checked, written-short, written-whole   the cases of a call
 --   put_whole, put-short, put-counted   the same, by what was put into the store
 use Rattle.std.specs.Prelude.{◌≡◌, refl, Result, Bool, true, ◌&&◌, ◌||◌, eqb, ◌↔◌, ◌≢◌, List, [], ◌∷◌, ◌++◌, ℕ, zero, suc, ◌*◌, ◌≤◌, ◌<◌, T, ℤ, pos, nat_abs, length, take, drop, get_or}
 use Rattle.std.proofs.Math.Path.{sym, ap}
@@ -194,17 +194,21 @@ unfolding sheet_of sheet_given
 sheet-given z count order row_store relation_store n e =
     ap (λ columns. write_sheet_of (sheet_given z count columns row_store relation_store)) (ap (λ k. take k order) e ∙ given-first order)
 
-pub call-refused : (z : Sizes) (count : ℕ) (order : List ℕ) (row_store relation_store : List ℤ) (byte_store : List ℕ) (r : Refusal)
+pub call-refused : (z : Sizes) (count : ℕ) (order : List ℕ) (row_store relation_store : List ℤ) (byte_store : List ℕ) (n : ℕ)
+    → n ≡ check_write_of z count order row_store relation_store → n ≢ 0
+    → unwritten n byte_store ≡ write_call z count order row_store relation_store byte_store
+unfolding write_call
+call-refused z count order row_store relation_store byte_store zero e ne = absurd (ne refl)
+call-refused z count order row_store relation_store byte_store (suc n) e ne =
+    ap (after_write_check z count order row_store relation_store byte_store) e
+
+-- The same of a refusal by its name.
+pub refused-by_name : (z : Sizes) (count : ℕ) (order : List ℕ) (row_store relation_store : List ℤ) (byte_store : List ℕ) (r : Refusal)
     → number_of r ≡ check_write_of z count order row_store relation_store
     → call_of (Err r) byte_store ≡ write_call z count order row_store relation_store byte_store
-unfolding write_call after_write_check unwritten
-call-refused z count order row_store relation_store byte_store r e =
-    refused (number_of r) (number-nonzero r) ∙ ap (after_write_check z count order row_store relation_store byte_store) e
-  where
-    refused : (n : ℕ) → n ≢ 0
-        → ◌≡◌ {A = WriteCall} (record { refusal = n; length = 0; byte_store = byte_store }) (after_write_check z count order row_store relation_store byte_store n)
-    refused zero some = absurd (some refl)
-    refused (suc n) some = refl
+unfolding unwritten
+refused-by_name z count order row_store relation_store byte_store r e =
+    call-refused z count order row_store relation_store byte_store (number_of r) e (number-nonzero r)
 
 pub call-checked : (z : Sizes) (count : ℕ) (order : List ℕ) (row_store relation_store : List ℤ) (byte_store : List ℕ)
     → check_write_of z count order row_store relation_store ≡ 0

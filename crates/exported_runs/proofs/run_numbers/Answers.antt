@@ -13,8 +13,9 @@ use mir.Val.{SFits}
 use mir.Facts.{to_z-of_z}
 use Rattle.lists.specs.Everywhere.{all-get_or-default}
 use Rattle.std.proofs.Common.{Ok, subst, sym}
-use Rattle.std.specs.Prelude.{is_some, unwrap_or}
+use Rattle.std.specs.Prelude.{Option, None, Some, is_some, unwrap_or}
 use Rattle.multiplicities.specs.Counts.{no_root}
+use Rattle.multiplicities.specs.declared.Root.{Root}
 use Rattle.refusals.specs.Refusals.{number_of}
 use Rattle.rules.specs.Calls.{zeros}
 use Rattle.runs.specs.declared.RunReport.{RunReport}
@@ -23,6 +24,11 @@ use Rattle.export_results.specs.Results.{most_count, small-fits, small-value, co
 use Rattle.exported_runs.specs.Runs.{run_numbers_of, SmallResult, refused-numbers}
 use Rattle.exported_runs.proofs.run_numbers.Goals as goal
 use Rattle.exported_runs.proofs.run_numbers.Goals.{After-unwrap_or-root}
+
+-- A root, or what stands in its place.
+times-or : (o : Option Root) (d : Root) → (unwrap_or o no_root).times ≤ 64 → d.times ≤ 64 → (unwrap_or o d).times ≤ 64
+times-or None d h k = k
+times-or (Some r) d h k = h
 
 -- what is cast is small
 module _ (c : After-unwrap_or-root) where
@@ -50,7 +56,7 @@ module _ (c : After-unwrap_or-root) where
 
   times : c.unwrap_or-root.result.times ≤ 64
   unfolding result_of
-  times = subst (λ r. r.times ≤ 64) (sym c.unwrap_or-root.ensures) small.few-times
+  times = subst (λ r. r.times ≤ 64) (sym c.unwrap_or-root.ensures) (times-or report.root _ small.few-times (omega arith))
 
 pub returns-in_default : goal.returns-in_default
 unfolding result_of zeros
@@ -79,7 +85,8 @@ pub overflow_cast-result-8 : goal.overflow_cast-result-8
 overflow_cast-result-8 c = small-fits _ (rank (goal.at.overflow_cast-result-8 c).After-unwrap_or-root)
 
 pub overflow_cast-result-9 : goal.overflow_cast-result-9
-overflow_cast-result-9 c = small-fits _ (times (goal.at.overflow_cast-result-9 c).After-unwrap_or-root)
+overflow_cast-result-9 c =
+    let d = (goal.at.overflow_cast-result-9 c).After-unwrap_or-root in small-fits _ (omega (arith, times d, rank d))
 
 pub returns : goal.returns
 unfolding run_numbers_of result_of

@@ -11,21 +11,22 @@ use Rattle.own_logs.proofs.run.Goals as goal
 pub returns-in-Ok : goal.returns-in-Ok
 returns-in-Ok c =
     record {
-      ran = ran-held c.requires.1.long c.in-Ok.ensures.came.reached refl;
+      ran = ran-held c.requires.1.long c.in-Ok.ensures.came refl;
       log_left = left-kept refl c.in-Ok.ensures.noted;
     }
 
 pub clear-requires : goal.clear-requires
 clear-requires c =
-    let came = c.in-Err.ensures.came.reached in (
+    let came = c.in-Err.ensures.came in (
       c.requires.0,
       omega (arith, c.requires.1.long, came.rows-kept.same_length),
-      omega (arith, came.ready.listing.within.long),
+      came.ready.listing.few,
+      omega (arith, came.ready.listing.few, came.ready.listing.within.long),
     )
 
 pub returns-in-Err : goal.returns-in-Err
 returns-in-Err c =
-    let refused = number-nonzero c.in-Err.refusal in record {
-      ran = ran-cleared c.requires.0 c.requires.1.long c.in-Err.ensures.came.reached refused c.clear.ensures.rows_after c.clear.ensures.relations_after;
+    let refused = number-nonzero c.in-Err.stop.refusal in record {
+      ran = ran-cleared c.requires.0 c.requires.1.long c.in-Err.ensures.came refused c.clear.ensures.rows_after c.clear.ensures.relations_after;
       log_left = left-cleared refused c.in-Err.ensures.noted c.clear-in-Err.ensures (omega (arith, c.in-Err.ensures.noted.kept.same_length));
     }

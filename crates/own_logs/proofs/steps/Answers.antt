@@ -56,7 +56,7 @@ returns-then-is_done c =
     let at = c.loop.invariant in
     let end = inr (inr (leb-true _ _ (sym c.is_done.ensures ∙ c.if-is_done.true))) in
     record {
-      came = record { left = c.loop.p; reached = run-stops at.0 end };
+      came = run-stops at.0 end;
       noted = noting-stops at.1 at.0.reached.ready end;
     }
 
@@ -90,12 +90,12 @@ returns-in_err-p c =
     let inv = turn.loop.invariant in
     let exit = err_from_is_err_and c.from_residual.result c.from_residual.ensures.1 in
     let came = c.in_err-p.ensures in
-    let refused = number-nonzero c.in_err-p.field-0.0 in
+    let refused = number-nonzero c.in_err-p.field-0.0.refusal in
     rw (exit.1, exit.2) record {
-      came = record { left = came.left; reached = run-refused (run-goes inv.0 (one_more turn) refl (one_left turn) came.reached refl) refused };
+      came = run-refused (run-goes inv.0 (one_more turn) refl (one_left turn) came refl) refused;
       noted = noted-refused refused
           (noting-stops (noting-goes inv.1 inv.0.reached.ready (some_left turn) refl (one_left turn) c.step_lines-lines.ensures
-          c.put_lines.ensures came.reached refl (room turn)) came.reached.ready (inr (inl refused)));
+          c.put_lines.ensures came refl (room turn)) came.ready (inr (inl refused)));
     }
 
 pub loop-preserved : goal.loop-preserved
@@ -103,9 +103,9 @@ loop-preserved c =
     let turn = (goal.at.loop-preserved c).Else-is_done in
     let inv = turn.loop.invariant in
     let came = c.in_ok-p.ensures in (
-      run-goes inv.0 (one_more turn) refl (one_left turn) came.reached refl,
+      run-goes inv.0 (one_more turn) refl (one_left turn) came refl,
       left-is (next turn) (noting-goes inv.1 inv.0.reached.ready (some_left turn) refl (one_left turn) c.step_lines-lines.ensures
-          c.put_lines.ensures came.reached refl (room turn)),
+          c.put_lines.ensures came refl (room turn)),
     )
 
 pub returns : goal.returns
@@ -113,6 +113,6 @@ returns c =
     let at = c.loop.invariant in
     let none : c.enough-most.result - c.loop.counter ≡ 0 = omega (arith, c.loop-test.false) in
     record {
-      came = record { left = c.loop.p; reached = run-stops at.0 (inl none) };
+      came = run-stops at.0 (inl none);
       noted = noting-stops at.1 at.0.reached.ready (inl none);
     }

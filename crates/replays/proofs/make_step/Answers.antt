@@ -2,7 +2,6 @@
 -- Assumes nothing.
 use mathlib.Core.Path.{refl, ap}
 use borrow.Author.Rules.{rules}
-use Rattle.std.proofs.lemmas.Result.{err_from_is_err_and}
 use Rattle.polynomials.specs.Content.{read_back}
 use Rattle.refusals.specs.Refusals.{number_of}
 use Rattle.reduction.specs.Progress.{answer_of, state_of}
@@ -16,62 +15,55 @@ pub combine_rows-requires-clause-g_len : goal.combine_rows-requires-clause-g_len
 unfolding multiplier_g multiplier_h
 combine_rows-requires-clause-g_len c =
     let x = c.args.x.now in
-    let read = c.in_ok-step.ensures in
+    let read = c.in-Ok.ensures in
     let said = rw c.in-Combination.is at read in
     (length-g x c.requires.x_len, said.1.1, length-h x c.requires.x_len, said.1.2)
 
-pub returns-in_err-step : goal.returns-in_err-step
-returns-in_err-step c =
-    let exit = err_from_is_err_and c.from_residual.result c.from_residual.ensures.1 in
-    let wrong = c.in_err-step.ensures in
-    rw (exit.1, exit.2) record {
-      left = c.args.p;
-      stepped = stepped_same refl (ap (λ r. answer_of (number_of r) c.args.p) wrong.0)
-          (given-none c.args.span (state_of c.args.rows.now c.args.relations.now c.args.p) (change_of c.args.x.now) wrong.1)
-          (refused-here c.args.span c.requires.ready.0 c.requires.ready.1);
-    }
+pub returns-in-Err : goal.returns-in-Err
+returns-in-Err c =
+    let wrong = c.in-Err.ensures in
+    rw c.stopped.ensures (stepped_same refl (ap (λ r. answer_of (number_of r) c.args.p) wrong.0)
+    (given-none c.args.span (state_of c.args.rows.now c.args.relations.now c.args.p) (change_of c.args.x.now) wrong.1)
+    (refused-here c.args.span c.requires.ready.0 c.requires.ready.1))
 
 pub returns-in-Exchange : goal.returns-in-Exchange
 returns-in-Exchange c =
     let relations = c.args.relations.now in
-    let read = c.in_ok-step.ensures in
+    let read = c.in-Ok.ensures in
     let said = rw c.in-Exchange.is at read in
     let came = c.exchange_rows.ensures c.args.span relations c.requires.ready.0 in
-    record { left = came.left; stepped = stepped_same refl refl (given-changed c.args.span (state_of c.args.rows.now relations c.args.p) (change_of c.args.x.now) _ said.0) came.stepped }
+    stepped_same refl refl (given-changed c.args.span (state_of c.args.rows.now relations c.args.p) (change_of c.args.x.now) _ said.0) came
 
 pub returns-in-Combination : goal.returns-in-Combination
 unfolding multiplier_g multiplier_h
 returns-in-Combination c =
-    let read = c.in_ok-step.ensures in
+    let read = c.in-Ok.ensures in
     let said = rw c.in-Combination.is at read in
     let came = rw (read_back c.in-Combination.d (search rules)) at (c.combine_rows.ensures c.args.span) in
-    record {
-      left = came.left;
-      stepped = stepped_same refl refl
-          (given-changed c.args.span (state_of c.args.rows.now c.args.relations.now c.args.p) (change_of c.args.x.now) _ said.0)
-          came.stepped;
-    }
+    stepped_same refl refl
+    (given-changed c.args.span (state_of c.args.rows.now c.args.relations.now c.args.p) (change_of c.args.x.now) _ said.0)
+    came
 
 pub returns-in-Raise : goal.returns-in-Raise
 returns-in-Raise c =
     let relations = c.args.relations.now in
-    let read = c.in_ok-step.ensures in
+    let read = c.in-Ok.ensures in
     let said = rw c.in-Raise.is at read in
     let came = c.raise_row.ensures c.args.span relations c.requires.ready.0 in
-    record { left = came.left; stepped = stepped_same refl refl (given-changed c.args.span (state_of c.args.rows.now relations c.args.p) (change_of c.args.x.now) _ said.0) came.stepped }
+    stepped_same refl refl (given-changed c.args.span (state_of c.args.rows.now relations c.args.p) (change_of c.args.x.now) _ said.0) came
 
 pub returns-in-Lower : goal.returns-in-Lower
 returns-in-Lower c =
     let relations = c.args.relations.now in
-    let read = c.in_ok-step.ensures in
+    let read = c.in-Ok.ensures in
     let said = rw c.in-Lower.is at read in
     let came = c.lower_row.ensures relations c.requires.ready.0 in
-    record { left = came.left; stepped = stepped_same refl refl (given-changed c.args.span (state_of c.args.rows.now relations c.args.p) (change_of c.args.x.now) _ said.0) came.stepped }
+    stepped_same refl refl (given-changed c.args.span (state_of c.args.rows.now relations c.args.p) (change_of c.args.x.now) _ said.0) came
 
 pub returns-in-Drop : goal.returns-in-Drop
 returns-in-Drop c =
     let relations = c.args.relations.now in
-    let read = c.in_ok-step.ensures in
+    let read = c.in-Ok.ensures in
     let said = rw c.in-Drop.is at read in
     let came = c.drop_row.ensures c.args.span relations c.requires.ready.0 in
-    record { left = came.left; stepped = stepped_same refl refl (given-changed c.args.span (state_of c.args.rows.now relations c.args.p) (change_of c.args.x.now) _ said.0) came.stepped }
+    stepped_same refl refl (given-changed c.args.span (state_of c.args.rows.now relations c.args.p) (change_of c.args.x.now) _ said.0) came

@@ -57,24 +57,18 @@ pub returns-in_err-p : goal.returns-in_err-p
 returns-in_err-p c =
     let exit = err_from_is_err_and c.from_residual.result c.from_residual.ensures.1 in
     let came = c.in_err-p.ensures in
-    rw (exit.1, exit.2) record {
-      left = came.left;
-      replayed = replay-halts c.loop-k.invariant (omega (arith, c.loop-k-test.true, steps-count c.args.steps c.args.log.now))
-          (stepped-at c.args.span _ c.args.steps c.args.log.now c.loop-k.k c.loop-k-test.true came.stepped)
-          (number-nonzero c.in_err-p.field-0.0) (omega (arith, c.loop-k-test.true, c.requires.ready.4));
-    }
+    rw (exit.1, exit.2) (replay-halts c.loop-k.invariant (omega (arith, c.loop-k-test.true, steps-count c.args.steps c.args.log.now))
+    (stepped-at c.args.span _ c.args.steps c.args.log.now c.loop-k.k c.loop-k-test.true came)
+    (number-nonzero c.in_err-p.field-0.0.refusal) (omega (arith, c.loop-k-test.true, c.requires.ready.4)))
 
 pub loop-k-preserved : goal.loop-k-preserved
 loop-k-preserved c =
     let came = c.in_ok-p.ensures in
     replay-goes c.loop-k.invariant (omega (arith, c.loop-k-test.true, steps-count c.args.steps c.args.log.now))
-    (stepped-at c.args.span _ c.args.steps c.args.log.now c.loop-k.k c.loop-k-test.true came.stepped) refl
+    (stepped-at c.args.span _ c.args.steps c.args.log.now c.loop-k.k c.loop-k-test.true came) refl
 
 pub returns : goal.returns
 returns c =
-    record {
-      left = c.loop-k.p;
-      replayed = replay-stops c.loop-k.invariant refl
-          (omega (arith, c.loop-k-test.false, steps-count c.args.steps c.args.log.now))
-          (omega (arith, c.requires.ready.4));
-    }
+    replay-stops c.loop-k.invariant refl
+    (omega (arith, c.loop-k-test.false, steps-count c.args.steps c.args.log.now))
+    (omega (arith, c.requires.ready.4))

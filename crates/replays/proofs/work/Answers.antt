@@ -10,7 +10,7 @@ use lib.Seq.{length-take-le}
 use Rattle.rules.specs.Limits.{column_count}
 use Rattle.std.proofs.lemmas.Result.{err_from_is_err_and}
 use Rattle.refusals.specs.Refusals.{number-nonzero}
-use Rattle.reduction.specs.Answer.{run_answer}
+use Rattle.reduction.specs.Answer.{told, progress_at, run_answer}
 use Rattle.reduction.specs.Progress.{state_of}
 use Rattle.log_steps.specs.Logs.{step_length, numbers_in, ordered, log_need}
 use Rattle.replays.specs.Endings.{Ended}
@@ -50,10 +50,7 @@ returns-in_err-p c =
     let s = (goal.at.returns-in_err-p c).Start in
     let exit = err_from_is_err_and c.from_residual.result c.from_residual.ensures.1 in
     let came = c.in_err-p.ensures in
-    rw (exit.1, exit.2) record {
-      left = came.left;
-      worked = work-refused (ordered s.args.m (numbers_in (steps s) (log s))) came.replayed (number-nonzero c.in_err-p.field-0.0);
-    }
+    rw (exit.1, exit.2) (work-refused (ordered s.args.m (numbers_in (steps s) (log s))) came (number-nonzero c.in_err-p.field-0.0.refusal))
 
 pub overflow_mul-from : goal.overflow_mul-from
 overflow_mul-from c =
@@ -78,7 +75,7 @@ slice_bounds-finish-end c =
 pub finish-requires : goal.finish-requires
 finish-requires c =
     let s = (goal.at.finish-requires c).Start in
-    let made = c.in_ok-p.ensures.replayed in
+    let made = c.in_ok-p.ensures in
     let width : steps s * step_length + column_count - steps s * step_length ≡ column_count = omega arith in (
       record { few-rows = made.reached.ready.few-rows; rows-within = made.reached.ready.rows-within; unsettled = made.unsettled },
       s.requires.m_le_column_count.0,
@@ -91,12 +88,9 @@ returns c =
     let p = c.in_ok-p.p in
     let rows = c.replay_steps.new.rows in
     let relations = c.replay_steps.new.relations in
-    let made = c.in_ok-p.ensures.replayed in
+    let made = c.in_ok-p.ensures in
     let width : steps s * step_length + column_count - steps s * step_length ≡ column_count = omega arith in
-    record {
-      left = p;
-      worked = work-ended (ordered s.args.m (numbers_in (steps s) (log s))) made refl
-          (subst (λ l. Ended rows relations p (run_answer c.finish.result p) (ordered s.args.m l (state_of rows relations p)))
-          (numbers-are s (steps s * step_length + column_count - steps s * step_length) width)
-          (c.finish.ensures relations made.reached.ready));
-    }
+    work-ended (ordered s.args.m (numbers_in (steps s) (log s))) made refl
+    (subst (λ l. Ended rows relations p (run_answer (told c.finish.result) (progress_at c.finish.result)) (ordered s.args.m l (state_of rows relations p)))
+    (numbers-are s (steps s * step_length + column_count - steps s * step_length) width)
+    (c.finish.ensures relations made.reached.ready))

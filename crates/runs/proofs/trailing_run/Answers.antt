@@ -2,6 +2,7 @@
 -- Assumes nothing.
 use borrow.Author.Rules.{rules}
 use mathlib.Core.Path.{refl}
+use native.Mathlib.Omega.{arith}
 use Rattle.std.proofs.Common.{Ok, Err}
 use Rattle.std.proofs.lemmas.Result.{err_from_is_err_and}
 use Rattle.refusals.specs.Refusals.{number-nonzero}
@@ -41,7 +42,10 @@ pub mirror_relations-requires : goal.mirror_relations-requires
 mirror_relations-requires c =
     let r = ran (goal.at.mirror_relations-requires c).In_ok-p in (
       c.requires.1,
-      listed_more c.args.equations c.args.span c.args.count c.args.rows.now c.args.relations.now _ _ _ c.requires.1 c.mirror_rows.ensures _ r refl,
+      omega (
+        arith,
+        listed_more c.args.equations c.args.span c.args.count c.args.rows.now c.args.relations.now _ _ _ c.requires.1 c.mirror_rows.ensures _ r refl,
+      ),
       r.reached.ready.listing,
     )
 

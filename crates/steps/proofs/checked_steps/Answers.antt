@@ -103,7 +103,7 @@ pub returns-in-Err : goal.returns-in-Err
 unfolding call_of result_of held_of the_columns_of the_sizes_of equations run_in RunLaws.result_of
 returns-in-Err c =
     let s = (goal.at.returns-in-Err c).Start in
-    let r = c.in-Err.refusal in
+    let r = c.in-Err.stop.refusal in
     let start = start_progress (equations (x s).sizes) 0 in
     call-moved s.args.budget (x s) (rows s) (relations s) c.from_zero-order.ensures.1 s.requires
     (moved-as c.in-Err.is c.run_on-moved.ensures) (same (goal.at.returns-in-Err c).After-from_zero-order)

@@ -47,11 +47,8 @@ module _ (c : Else-p-i) where
 pub returns-then-p-i : goal.returns-then-p-i
 returns-then-p-i c =
     let s = (goal.at.returns-then-p-i c).Start in
-    λ D relations ready.
-    record {
-      left = p s;
-      stepped = step-refused D ready (begun s).unsettled (dropping (i s)) (absent-dropped D ready (begun s).unsettled (i s) c.if-p-i.true);
-    }
+    rw c.stopped.ensures (λ D relations ready.
+    step-refused D ready (begun s).unsettled (dropping (i s)) (absent-dropped D ready (begun s).unsettled (i s) c.if-p-i.true))
 
 pub row_zero-requires : goal.row_zero-requires
 row_zero-requires c = let e = c in begun-room (begun (start e)) (i (start e)) (inside e)
@@ -60,12 +57,9 @@ pub returns-then-not-row_zero : goal.returns-then-not-row_zero
 returns-then-not-row_zero c =
     let e = (goal.at.returns-then-not-row_zero c).Else-p-i in
     let s = start e in
-    λ D relations ready.
-    record {
-      left = p s;
-      stepped = step-refused D ready (begun s).unsettled (dropping (i s))
-          (drop-allowed D ready (begun s).unsettled (i s) (inside e) ∙ sym c.row_zero.ensures ∙ c.if-not-row_zero.true);
-    }
+    rw c.stopped-then-not-row_zero.ensures (λ D relations ready.
+    step-refused D ready (begun s).unsettled (dropping (i s))
+    (drop-allowed D ready (begun s).unsettled (i s) (inside e) ∙ sym c.row_zero.ensures ∙ c.if-not-row_zero.true))
 
 pub overflow_sub-last : goal.overflow_sub-last
 overflow_sub-last c = let e = (goal.at.overflow_sub-last c).Else-p-i in omega (arith, inside e)
@@ -99,12 +93,9 @@ returns c =
     let e = (goal.at.returns c).Else-p-i in
     let s = start e in
     λ D relations ready.
-    record {
-      left = p s;
-      stepped = stepped_same
-          (c.clear.ensures
-          ∙ ap (λ l. paste l (((p s).rows - 1) * row_length) (replicate row_length (pos 0)) row_length) c.move_up.ensures)
-          refl refl
-          (drop-stepped D ready (begun s).unsettled (i s) (inside e)
-          (drop-allowed D ready (begun s).unsettled (i s) (inside e) ∙ sym c.row_zero.ensures ∙ c.if-not-row_zero.false));
-    }
+    stepped_same
+    (c.clear.ensures
+    ∙ ap (λ l. paste l (((p s).rows - 1) * row_length) (replicate row_length (pos 0)) row_length) c.move_up.ensures)
+    refl refl
+    (drop-stepped D ready (begun s).unsettled (i s) (inside e)
+    (drop-allowed D ready (begun s).unsettled (i s) (inside e) ∙ sym c.row_zero.ensures ∙ c.if-not-row_zero.false))

@@ -48,12 +48,9 @@ module _ (c : Else-not-two_rows) where
 pub returns-then-not-two_rows : goal.returns-then-not-two_rows
 returns-then-not-two_rows c =
     let s = (goal.at.returns-then-not-two_rows c).Start in
-    λ D relations ready.
-    record {
-      left = p s;
-      stepped = step-refused D ready (begun s).unsettled (exchanging (i s) (j s))
-          (exchange-allowed D ready (begun s).unsettled (i s) (j s) ∙ sym c.two_rows.ensures ∙ c.if-not-two_rows.true);
-    }
+    rw c.stopped.ensures (λ D relations ready.
+    step-refused D ready (begun s).unsettled (exchanging (i s) (j s))
+    (exchange-allowed D ready (begun s).unsettled (i s) (j s) ∙ sym c.two_rows.ensures ∙ c.if-not-two_rows.true))
 
 pub width_of-width-requires : goal.width_of-width-requires
 width_of-width-requires c = let e = c in let s = start e in begun-room (begun s) (i s) (inside e)
@@ -75,9 +72,6 @@ returns c =
     let e = (goal.at.returns c).Else-not-two_rows in
     let s = start e in
     λ D relations ready.
-    record {
-      left = p s;
-      stepped = stepped_same c.exchange.ensures refl refl
-          (exchange-stepped D ready (begun s).unsettled (i s) (j s) (inside e) (other e)
-          (exchange-allowed D ready (begun s).unsettled (i s) (j s) ∙ tested e));
-    }
+    stepped_same c.exchange.ensures refl refl
+    (exchange-stepped D ready (begun s).unsettled (i s) (j s) (inside e) (other e)
+    (exchange-allowed D ready (begun s).unsettled (i s) (j s) ∙ tested e))

@@ -23,12 +23,9 @@ pub returns-in_err-row : goal.returns-in_err-row
 returns-in_err-row c =
     let exit = err_from_is_err_and c.from_residual.result c.from_residual.ensures.1 in
     let wrong = c.in_err-row.ensures in
-    rw (exit.1, exit.2) (λ relations ready. record {
-      left = c.args.p;
-      stepped = stepped_same refl (ap (λ r. answer_of (number_of r) c.args.p) wrong.0) refl
-          (step-refused c.args.span ready c.requires.0.unsettled (lowering c.args.i)
-          (lower-unlost c.args.span ready c.requires.0.unsettled c.args.i wrong.1));
-    })
+    rw (exit.1, exit.2) (λ relations ready. stepped_same refl (ap (λ s. answer_of (number_of s.refusal) s.progress) wrong.0) refl
+    (step-refused c.args.span ready c.requires.0.unsettled (lowering c.args.i)
+    (lower-unlost c.args.span ready c.requires.0.unsettled c.args.i wrong.1)))
 
 pub lowered-requires : goal.lowered-requires
 lowered-requires c =
@@ -64,9 +61,6 @@ returns c =
     let span = c.args.span in
     let first = c.requires.0.unsettled in
     λ relations ready.
-    record {
-      left = c.args.p;
-      stepped = stepped_same (c.put_limited.ensures.rows_after ∙ saved-limited rows i (new d) d.lowered.result (shown d))
-          (c.put_limited.ensures.value ∙ ap (λ n. answer_of n c.args.p) (shown d).0) refl
-          (lower-stepped span ready first i (losing d).inside (lower-allowed span ready first i (losing d).inside ∙ (losing d).lost));
-    }
+    stepped_same (c.put_limited.ensures.rows_after ∙ saved-limited rows i (new d) d.lowered.result (shown d))
+    (c.put_limited.ensures.value ∙ ap (λ n. answer_of n c.args.p) (shown d).0) refl
+    (lower-stepped span ready first i (losing d).inside (lower-allowed span ready first i (losing d).inside ∙ (losing d).lost))

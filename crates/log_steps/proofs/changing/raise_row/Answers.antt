@@ -22,11 +22,8 @@ pub returns-in_err-row : goal.returns-in_err-row
 returns-in_err-row c =
     let exit = err_from_is_err_and c.from_residual.result c.from_residual.ensures.1 in
     let wrong = c.in_err-row.ensures in
-    rw (exit.1, exit.2) (λ D relations ready. record {
-      left = c.args.p;
-      stepped = stepped_same refl (ap (λ r. answer_of (number_of r) c.args.p) wrong.0) refl
-          (step-refused D ready c.requires.0.unsettled (raising c.args.i) (raise-unlost D ready c.requires.0.unsettled c.args.i wrong.1));
-    })
+    rw (exit.1, exit.2) (λ D relations ready. stepped_same refl (ap (λ s. answer_of (number_of s.refusal) s.progress) wrong.0) refl
+    (step-refused D ready c.requires.0.unsettled (raising c.args.i) (raise-unlost D ready c.requires.0.unsettled c.args.i wrong.1)))
 
 pub shifted-requires : goal.shifted-requires
 shifted-requires c =
@@ -63,9 +60,6 @@ returns c =
     let next = shifted_progress c.args.p in
     let first = c.requires.0.unsettled in
     λ D relations ready.
-    record {
-      left = next;
-      stepped = stepped_same (c.put_limited.ensures.rows_after ∙ saved-limited rows i (new d) d.shifted.result (shown d))
-          (c.put_limited.ensures.value ∙ ap (λ n. answer_of n next) (shown d).0) refl
-          (raise-stepped D ready first i (losing d).inside (raise-allowed D ready first i (losing d).inside ∙ (losing d).lost));
-    }
+    stepped_same (c.put_limited.ensures.rows_after ∙ saved-limited rows i (new d) d.shifted.result (shown d))
+    (c.put_limited.ensures.value ∙ ap (λ n. answer_of n next) (shown d).0) refl
+    (raise-stepped D ready first i (losing d).inside (raise-allowed D ready first i (losing d).inside ∙ (losing d).lost))

@@ -132,7 +132,7 @@ returns-then-count-gt16 c =
     let r = (goal.at.returns-then-count-gt16 c).After-roots_with-found in
     let s = base r in
     let many : 16 < (p s).count + length (roots (g s)) = omega (arith, count-is r, c.if-count-gt16.true) in
-    λ j d h other made. record { left = p s; stepped = combine-many (ready s) (none s) (i s) j d (g s) h (inside s) other many }
+    rw c.stopped.ensures (λ j d h other made. combine-many (ready s) (none s) (i s) j d (g s) h (inside s) other many)
 
 pub overflow_mul-i : goal.overflow_mul-i
 overflow_mul-i c =
@@ -160,10 +160,7 @@ returns c =
     let l = (goal.at.returns c).After-list_roots in
     let s = origin l in
     λ j d h other shown.
-    record {
-      left = listed_progress (p s) (found (rooted l)).count;
-      stepped = stepped_same (c.put_limited.ensures.rows_after ∙ saved-limited (rows s) (i s) (new s j d h) s.args.worked shown)
-          (c.put_limited.ensures.value ∙ ap₂ (λ n k. answer_of n (listed_progress (p s) k)) shown.0 (count-is (rooted l)))
-          refl
-          (stepped l j d h other);
-    }
+    stepped_same (c.put_limited.ensures.rows_after ∙ saved-limited (rows s) (i s) (new s j d h) s.args.worked shown)
+    (c.put_limited.ensures.value ∙ ap₂ (λ n k. answer_of n (listed_progress (p s) k)) shown.0 (count-is (rooted l)))
+    refl
+    (stepped l j d h other)

@@ -133,21 +133,15 @@ module _ (c : After-divided_row) where
 pub returns-then-not-two_rows : goal.returns-then-not-two_rows
 returns-then-not-two_rows c =
     let s = (goal.at.returns-then-not-two_rows c).Start in
-    λ D. record {
-      left = p s;
-      stepped = step-refused D (ready s) (none s) (combining (i s) (j s) (d s) (g s) (h s))
-          (absent-combined (ready s) (none s) (i s) (j s) (d s) (g s) (h s) D (sym c.two_rows.ensures ∙ c.if-not-two_rows.true));
-    }
+    rw c.stopped.ensures (λ D. step-refused D (ready s) (none s) (combining (i s) (j s) (d s) (g s) (h s))
+    (absent-combined (ready s) (none s) (i s) (j s) (d s) (g s) (h s) D (sym c.two_rows.ensures ∙ c.if-not-two_rows.true)))
 
 pub returns-then-is_zero : goal.returns-then-is_zero
 returns-then-is_zero c =
     let e = (goal.at.returns-then-is_zero c).Else-not-two_rows in
     let s = start e in
-    λ D. record {
-      left = p s;
-      stepped = step-refused D (ready s) (none s) (combining (i s) (j s) (d s) (g s) (h s))
-          (condition e D ∙ ap (λ t. not t && divides_all (d s) (whole e)) (sym c.is_zero.ensures ∙ c.if-is_zero.true));
-    }
+    rw c.stopped-then-is_zero.ensures (λ D. step-refused D (ready s) (none s) (combining (i s) (j s) (d s) (g s) (h s))
+    (condition e D ∙ ap (λ t. not t && divides_all (d s) (whole e)) (sym c.is_zero.ensures ∙ c.if-is_zero.true)))
 
 pub overflow_mul-i : goal.overflow_mul-i
 overflow_mul-i c =
@@ -190,11 +184,8 @@ returns-in-None c =
     let e = passed q in
     let s = base q in
     let inexact = inexact-judged (d s) (g s) (h s) (target q) (pivot q) (subst (λ o. Judged o (judged q)) c.in-None.is (judged-is q)) in
-    λ D. record {
-      left = p s;
-      stepped = step-refused D (ready s) (none s) (combining (i s) (j s) (d s) (g s) (h s))
-          (condition e D ∙ ap (λ t. not (is_zero_of (g s)) && t) inexact ∙ and-false (not (is_zero_of (g s))));
-    }
+    rw c.stopped-in-None.ensures (λ D. step-refused D (ready s) (none s) (combining (i s) (j s) (d s) (g s) (h s))
+    (condition e D ∙ ap (λ t. not (is_zero_of (g s)) && t) inexact ∙ and-false (not (is_zero_of (g s)))))
 
 pub combine_allowed-requires : goal.combine_allowed-requires
 combine_allowed-requires c =
@@ -218,10 +209,7 @@ returns-in-Some c =
     let s = base q in
     λ D.
     let stepped = c.combine_allowed.ensures (j s) (d s) (h s) (other e) (shown q c.in-Some.worked c.in-Some.is) in
-    record {
-      left = stepped.left;
-      stepped = stepped_same refl refl
-          (combining-changed D (state_of (rows s) (relations s) (p s)) (i s) (j s) (d s) (g s) (h s)
-          (condition e D ∙ ap₂ ◌&&◌ (nonzero q) (exact q c.in-Some.worked c.in-Some.is)))
-          stepped.stepped;
-    }
+    stepped_same refl refl
+    (combining-changed D (state_of (rows s) (relations s) (p s)) (i s) (j s) (d s) (g s) (h s)
+    (condition e D ∙ ap₂ ◌&&◌ (nonzero q) (exact q c.in-Some.worked c.in-Some.is)))
+    stepped

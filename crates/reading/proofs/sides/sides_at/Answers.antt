@@ -76,17 +76,17 @@ side_at-requires c =
     let l = c.loop-i in
     (l.invariant.within, lent-long l.store (place (goal.at.side_at-requires c).In-loop-i) coefficient_count (rw l.invariant.long (room (goal.at.side_at-requires c).In-loop-i)))
 
-pub returns-in_err-s : goal.returns-in_err-s
-returns-in_err-s c =
-    fails-on _ c.in_err-s.field-0.0 c.from_residual.ensures.1
-    (sides-refused _ _ _ _ _ _ _ _ _ _ _ _ c.loop-i.invariant c.loop-i-test.true
-    (read-err (rw c.is_needed-needed.ensures at c.in_err-s.ensures)))
-
 pub loop-i-preserved : goal.loop-i-preserved
 loop-i-preserved c =
     let t = (goal.at.loop-i-preserved c).In-loop-i in
     sides-go-on _ _ _ _ _ _ _ _ _ _ _ _ c.loop-i.invariant c.loop-i-test.true c.side_at.new.p
     c.in_ok-s.s.none _ (place t) (read-ok (rw c.is_needed-needed.ensures at c.in_ok-s.ensures)) (read-within c.in_ok-s.ensures) refl (room t)
+
+pub returns-in_err-s : goal.returns-in_err-s
+returns-in_err-s c =
+    fails-on _ c.in_err-s.field-0.0 c.from_residual.ensures.1
+    (sides-refused _ _ _ _ _ _ _ _ _ _ _ _ c.loop-i.invariant c.loop-i-test.true
+    (read-err (rw c.is_needed-needed.ensures at c.in_err-s.ensures)))
 
 pub shape_of-store : goal.shape_of-store
 shape_of-store c = c.loop-i.invariant.long

@@ -9,7 +9,7 @@ use Rattle.reduction.proofs.run.run.Goals as goal
 
 pub returns-in-Ok : goal.returns-in-Ok
 returns-in-Ok c =
-    let ran = ran-held c.requires.equations_le_most_equations.1.long c.in-Ok.ensures.reached refl in
+    let ran = ran-held c.requires.equations_le_most_equations.1.long c.in-Ok.ensures refl in
     record {
       value = ran.answer;
       rows_after = ran.rows-after;
@@ -20,16 +20,17 @@ returns-in-Ok c =
 pub clear-requires : goal.clear-requires
 clear-requires c =
     let needs = c.requires.equations_le_most_equations in
-    let came = c.in-Err.ensures.reached in (
+    let came = c.in-Err.ensures in (
       needs.0,
       omega (arith, needs.1.long, came.rows-kept.same_length),
-      omega (arith, came.ready.listing.within.long),
+      came.ready.listing.few,
+      omega (arith, came.ready.listing.few, came.ready.listing.within.long),
     )
 
 pub returns-in-Err : goal.returns-in-Err
 returns-in-Err c =
     let needs = c.requires.equations_le_most_equations in
-    let ran = ran-cleared needs.0 needs.1.long c.in-Err.ensures.reached (number-nonzero c.in-Err.refusal) c.clear.ensures.rows_after
+    let ran = ran-cleared needs.0 needs.1.long c.in-Err.ensures (number-nonzero c.in-Err.stop.refusal) c.clear.ensures.rows_after
     c.clear.ensures.relations_after in
     record {
       value = ran.answer;

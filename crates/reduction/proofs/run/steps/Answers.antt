@@ -44,32 +44,26 @@ step-requires c =
 
 pub returns-then-is_done : goal.returns-then-is_done
 returns-then-is_done c =
-    record {
-      left = c.loop.p;
-      reached = run-stops c.loop.invariant.0 (inr (inr (leb-true _ _ (sym c.is_done.ensures ∙ c.if-is_done.true))));
-    }
+    run-stops c.loop.invariant.0 (inr (inr (leb-true _ _ (sym c.is_done.ensures ∙ c.if-is_done.true))))
 
 pub returns-in_err-p : goal.returns-in_err-p
 returns-in_err-p c =
     let turn = (goal.at.returns-in_err-p c).Else-is_done in
     let exit = err_from_is_err_and c.from_residual.result c.from_residual.ensures.1 in
     let came = c.in_err-p.ensures in
-    rw (exit.1, exit.2) record {
-      left = came.left;
-      reached = run-refused (run-goes c.loop.invariant.0 (one_more turn) refl (one-left turn) came.reached refl)
-          (number-nonzero c.in_err-p.field-0.0);
-    }
+    rw (exit.1, exit.2) (run-refused (run-goes c.loop.invariant.0 (one_more turn) refl (one-left turn) came refl)
+    (number-nonzero c.in_err-p.field-0.0.refusal))
 
 pub loop-preserved : goal.loop-preserved
 loop-preserved c =
     let turn = (goal.at.loop-preserved c).Else-is_done in
     let at = c.loop.invariant in
     let came = c.in_ok-p.ensures in (
-      run-goes at.0 (one_more turn) refl (one-left turn) came.reached refl,
-      unused-after column_count c.args.span at.0.reached.ready (side_of c.args.side) (one-left turn) came.reached refl refl at.1,
+      run-goes at.0 (one_more turn) refl (one-left turn) came refl,
+      unused-after column_count c.args.span at.0.reached.ready (side_of c.args.side) (one-left turn) came refl refl at.1,
     )
 
 pub returns : goal.returns
 returns c =
     let none : c.enough-most.result - c.loop.counter ≡ 0 = omega (arith, c.loop-test.false) in
-    record { left = c.loop.p; reached = run-stops c.loop.invariant.0 (inl none) }
+    run-stops c.loop.invariant.0 (inl none)

@@ -255,12 +255,10 @@ pub returns-then-count-gt16 : goal.returns-then-count-gt16
 returns-then-count-gt16 c =
     let e = (goal.at.returns-then-count-gt16 c).After-put_multipliers_at-found in
     let b = start e in
-    let many : 16 < (p b).count + length (roots (x b).g) = omega (arith, count-is e, c.if-count-gt16.true) in record {
-      left = p b;
-      reached = reached-same refl refl
-          (combine-is b ∙ combine-refused (side b) (ready b) (j b) (inside b) (settled b) (x b) many)
-          (refused-reached (ready b) 8);
-    }
+    let many : 16 < (p b).count + length (roots (x b).g) = omega (arith, count-is e, c.if-count-gt16.true) in
+    rw c.stopped.ensures (reached-same refl refl
+    (combine-is b ∙ combine-refused (side b) (ready b) (j b) (inside b) (settled b) (x b) many)
+    (refused-reached (ready b) 8))
 
 pub list_roots-requires : goal.list_roots-requires
 list_roots-requires c =
@@ -309,11 +307,8 @@ returns c =
     let l = listings w in
     let b = begun w in
     let few : (p b).count + length (roots (x b).g) ≤ 16 = omega (arith, count-is (multiplied l), l.if-count-gt16.false) in
-    record {
-      left = _;
-      reached = reached-same
-          (c.put_limited.ensures.rows_after ∙ saved-limited (rows b) (i b) (new b) w.combined-worked.result (shown w))
-          (c.put_limited.ensures.value ∙ ap₂ (λ n k. answer_of n (listed_progress (p b) k)) (shown w).0 (count-is (multiplied l)))
-          (combine-is b)
-          (combine-reached (side b) (ready b) (j b) (inside b) (settled b) (x b) (relisted l) few (storable b));
-    }
+    reached-same
+    (c.put_limited.ensures.rows_after ∙ saved-limited (rows b) (i b) (new b) w.combined-worked.result (shown w))
+    (c.put_limited.ensures.value ∙ ap₂ (λ n k. answer_of n (listed_progress (p b) k)) (shown w).0 (count-is (multiplied l)))
+    (combine-is b)
+    (combine-reached (side b) (ready b) (j b) (inside b) (settled b) (x b) (relisted l) few (storable b))

@@ -15,8 +15,8 @@ use Rattle.rules.specs.Stores.{row_of}
 use Rattle.rules.specs.Elimination.{Side, multipliers_at, combine_step_of}
 use Rattle.reduction.specs.declared.step.Progress.{Progress}
 use Rattle.std.specs.Prelude.{Result}
-use Rattle.refusals.specs.declared.Refusal.{Refusal}
-use Rattle.reduction.specs.Answer.{step_answer}
+use Rattle.reduction.specs.declared.step.Stop.{Stop}
+use Rattle.reduction.specs.Answer.{told, progress_at, step_answer}
 use Rattle.sides.specs.Lent.{side_of}
 use Rattle.reduction.specs.Progress.{Ready, Reached, Came, state_of}
 use Rattle.reduction.specs.NewRows.{row_room}
@@ -83,18 +83,15 @@ module _ (c : Start) where
       )
 
   -- the outcome, for a store that is the narrowed one
-  reached : (r rows' relations' : List ℤ) (o : Result Progress Refusal) → r ≡ narrowed rows i j
+  reached : (r rows' relations' : List ℤ) (o : Result Progress Stop) → r ≡ narrowed rows i j
       → (let s = state_of r relations p in
       Came step_answer n r relations rows' relations' (p.shifts + 1) o (combine_step_of side s i j (multipliers_at s i j)))
       → let s = state_of (narrowed rows i j) relations p in
       Came step_answer n rows relations rows' relations' (p.shifts + 1) o (combine_step_of side s i j (multipliers_at s i j))
   reached r rows' relations' o e h =
-      record {
-        left = h.left;
-        reached = reached-after (narrowed-kept n rows ready.rows-within i j inside other)
-            (subst (λ d. let s = state_of d relations p in
-            Reached n d relations rows' relations' (p.shifts + 1) (step_answer o h.left) (combine_step_of side s i j (multipliers_at s i j))) e h.reached);
-      }
+      reached-after (narrowed-kept n rows ready.rows-within i j inside other)
+      (subst (λ d. let s = state_of d relations p in
+      Reached n d relations rows' relations' (p.shifts + 1) (step_answer (told o) (progress_at o)) (combine_step_of side s i j (multipliers_at s i j))) e h)
 
   -- the rows after the exchange
   first : numbers_at (exchanged_rows rows i j) i ≡ numbers_at rows j

@@ -17,7 +17,7 @@ use Rattle.working_rows.specs.Found.{found_or, entries_at}
 use Rattle.working_rows.specs.Working.{width-zero}
 use Rattle.reduction.specs.declared.step.Progress.{Progress}
 use Rattle.sides.specs.Lent.{side_of}
-use Rattle.reduction.specs.Progress.{Ready, answer_of, shifted_progress}
+use Rattle.reduction.specs.Progress.{Ready, answer_of}
 use Rattle.reduction.specs.NewRows.{row_room}
 use Rattle.reduction.specs.StoreExchange.{numbers_at, small-numbers_at}
 use Rattle.reduction.specs.StepLaws.{reached-same, refused-reached, drop-reached, shift-reached}
@@ -120,22 +120,18 @@ drop_step-requires c =
 pub returns-then-side_zero_at : goal.returns-then-side_zero_at
 returns-then-side_zero_at c =
     let b = start (goal.at.returns-then-side_zero_at c).After-width_at-width in
-    let none = sym c.side_zero_at.ensures ∙ c.if-side_zero_at.true in record {
-      left = p b;
-      reached = reached-same c.drop_step.ensures.rows_after (ap (answer_of 0) c.drop_step.ensures.value)
-          (step-zero (side b) (ready b) (inside b) (left-zero (goal.at.returns-then-side_zero_at c).After-width_at-width c.if-width-eq0.true) none)
-          (drop-reached (ready b) (inside b));
-    }
+    let none = sym c.side_zero_at.ensures ∙ c.if-side_zero_at.true in
+    reached-same c.drop_step.ensures.rows_after (ap (answer_of 0) c.drop_step.ensures.value)
+    (step-zero (side b) (ready b) (inside b) (left-zero (goal.at.returns-then-side_zero_at c).After-width_at-width c.if-width-eq0.true) none)
+    (drop-reached (ready b) (inside b))
 
 pub returns-then-width-eq0 : goal.returns-then-width-eq0
 returns-then-width-eq0 c =
     let b = start (goal.at.returns-then-width-eq0 c).After-width_at-width in
-    let some = sym c.side_zero_at.ensures ∙ c.if-side_zero_at.false in record {
-      left = p b;
-      reached = reached-same refl refl
-          (step-contradicts (side b) (ready b) (inside b) (left-zero (goal.at.returns-then-width-eq0 c).After-width_at-width c.if-width-eq0.true) some)
-          (refused-reached (ready b) 9);
-    }
+    let some = sym c.side_zero_at.ensures ∙ c.if-side_zero_at.false in
+    rw c.stopped.ensures (reached-same refl refl
+    (step-contradicts (side b) (ready b) (inside b) (left-zero (goal.at.returns-then-width-eq0 c).After-width_at-width c.if-width-eq0.true) some)
+    (refused-reached (ready b) 9))
 
 pub met_at-j-requires : goal.met_at-j-requires
 met_at-j-requires c =
@@ -158,12 +154,10 @@ eliminate_step-requires c =
 pub returns-then-j-i : goal.returns-then-j-i
 returns-then-j-i c =
     let d = (goal.at.returns-then-j-i c).After-met_at-j in
-    let b = base d in record {
-      left = c.eliminate_step.ensures.left;
-      reached = reached-same refl refl
-          (step-met (side b) (ready b) (inside b) (nonzero d) d.met_at-j.result (met-is d) c.if-j-i.true)
-          c.eliminate_step.ensures.reached;
-    }
+    let b = base d in
+    reached-same refl refl
+    (step-met (side b) (ready b) (inside b) (nonzero d) d.met_at-j.result (met-is d) c.if-j-i.true)
+    c.eliminate_step.ensures
 
 pub column_at-c-requires : goal.column_at-c-requires
 column_at-c-requires c = row-room-here (base (goal.at.column_at-c-requires c).After-met_at-j)
@@ -190,20 +184,15 @@ pub returns-then-c-lt-COLUMNS : goal.returns-then-c-lt-COLUMNS
 returns-then-c-lt-COLUMNS c =
     let d = (goal.at.returns-then-c-lt-COLUMNS c).After-column_at-c in
     let b = origin d in
-    let column = d.column_at-c.result in record {
-      left = p b;
-      reached = reached-same refl (ap (answer_of 0) c.with_settled.ensures) refl
-          (settled-reached (side b) (ready b) (inside b) (nonzero (unmet d)) (none-met d) column
-          (column-is d) (omega (arith, c.if-c-lt-COLUMNS.true)));
-    }
+    let column = d.column_at-c.result in
+    reached-same refl (ap (answer_of 0) c.with_settled.ensures) refl
+    (settled-reached (side b) (ready b) (inside b) (nonzero (unmet d)) (none-met d) column
+    (column-is d) (omega (arith, c.if-c-lt-COLUMNS.true)))
 
 pub returns-else-c-lt-COLUMNS : goal.returns-else-c-lt-COLUMNS
 returns-else-c-lt-COLUMNS c =
     let d = (goal.at.returns-else-c-lt-COLUMNS c).After-column_at-c in
     let b = origin d in
-    record {
-      left = shifted_progress (p b);
-      reached = reached-same c.shift_step.ensures.rows_after c.shift_step.ensures.value
-          (step-shift (side b) (ready b) (inside b) (nonzero (unmet d)) (none-met d) (omega (arith, column-is d, c.if-c-lt-COLUMNS.false)))
-          (shift-reached (ready b) (inside b));
-    }
+    reached-same c.shift_step.ensures.rows_after c.shift_step.ensures.value
+    (step-shift (side b) (ready b) (inside b) (nonzero (unmet d)) (none-met d) (omega (arith, column-is d, c.if-c-lt-COLUMNS.false)))
+    (shift-reached (ready b) (inside b))

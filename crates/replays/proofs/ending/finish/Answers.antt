@@ -72,8 +72,8 @@ order_holds-requires c =
 pub returns-then-not-order_holds : goal.returns-then-not-order_holds
 returns-then-not-order_holds c =
     let s = (goal.at.returns-then-not-order_holds c).Start in
-    λ relations ready.
-    end-unheld (m s) (numbers s) ready (sym c.order_holds.ensures ∙ c.if-not-order_holds.true)
+    rw c.stopped.ensures (λ relations ready.
+    end-unheld (m s) (numbers s) ready (sym c.order_holds.ensures ∙ c.if-not-order_holds.true))
 
 pub from_zero-order-requires : goal.from_zero-order-requires
 from_zero-order-requires c =
@@ -97,9 +97,9 @@ returns-then-not-pivots_right c =
     let z = (goal.at.returns-then-not-pivots_right c).After-from_zero-order in
     let e = held z in
     let s = base z in
-    λ relations ready.
+    rw c.stopped-then-not-pivots_right.ensures (λ relations ready.
     end-unpivoted (m s) (numbers s) ready s.requires.2 s.requires.1 (holds e)
-    (sym (pivots-are z _ (order_is z)) ∙ sym c.pivots_right.ensures ∙ c.if-not-pivots_right.true)
+    (sym (pivots-are z _ (order_is z)) ∙ sym c.pivots_right.ensures ∙ c.if-not-pivots_right.true))
 
 pub returns : goal.returns
 returns c =

@@ -3,6 +3,8 @@
 -- Assumes nothing.
 use mathlib.Core.Path.{◌≡◌, sym, ◌∙◌, ap, ap₂}
 use mathlib.Core.List.{List}
+use Rattle.std.proofs.Common.{rules}
+use Rattle.std.specs.Prelude.{option_map}
 use Prim.Native.Nat.{ℕ, ◌+◌, ◌-◌, ◌≤◌, ◌<◌}
 use native.Mathlib.Omega.{arith}
 use lib.Dec.{T}
@@ -17,10 +19,10 @@ use Rattle.working_rows.specs.Found.{Columns-at}
 use Rattle.roots.specs.RootSearch.{answered}
 use Rattle.sides.specs.FurthestRoots.{further_of}
 use Rattle.sides.specs.ReportLaws.{diagonal_at_of, diagonal-long, diagonal-small, part-lent}
-use Rattle.solutions.specs.LargestRoots.{option_of, option-of}
+use Rattle.solutions.specs.LargestRoots.{option_of, option-of, answered-value}
 use Rattle.solutions.specs.LastIndices.{last_none, last-next, last-all}
 use Rattle.solutions.proofs.trailing.last_root.Goals as goal
-use Rattle.solutions.proofs.trailing.last_root.Goals.{After-diagonal_at-from, After-largest_root, In-loop-j, Start}
+use Rattle.solutions.proofs.trailing.last_root.Goals.{After-diagonal_at-from, After-map, In-loop-j, Start}
 
 -- diagonal polynomial j
 module _ (c : In-loop-j) where
@@ -75,10 +77,15 @@ part c = let at = (goal.at.After-diagonal_at-from c).In-loop-j in part-lent (sto
 lent : (c : After-diagonal_at-from) → c.diagonal_at-from.result + coefficient_count ≤ length (store (goal.at.After-diagonal_at-from c).In-loop-j)
 lent c = rw (from-is c) (long (goal.at.After-diagonal_at-from c).In-loop-j)
 
--- its largest root
-root : (c : After-largest_root) → let at = (goal.at.After-largest_root c).In-loop-j in
-    c.largest_root.result ≡ answered (furthest leading (roots (take coefficient_count (drop (from at) (store at)))))
-root c = c.largest_root.ensures ∙ ap (λ p. answered (furthest leading (roots p))) (part (goal.at.After-largest_root c).After-diagonal_at-from)
+-- its largest root, without how often it occurs
+alone : (c : After-map) → c.map.result ≡ option_map (λ r. r.value) c.largest_with-most.result
+alone c = search rules
+
+root : (c : After-map) → let at = (goal.at.After-map c).In-loop-j in
+    c.map.result ≡ answered (furthest leading (roots (take coefficient_count (drop (from at) (store at)))))
+root c =
+    alone c ∙ ap (option_map (λ r. r.value)) c.largest_with-most.ensures ∙ answered-value _ _
+    ∙ ap (λ p. answered (furthest leading (roots p))) (part (goal.at.After-map c).After-diagonal_at-from)
 
 pub loop-j-init : goal.loop-j-init
 loop-j-init c = (omega arith, ap answered (sym (last_none c.args.span c.args.settled c.args.store.now c.args.order)))
@@ -94,24 +101,24 @@ overflow_add-to c = omega (arith, lent c)
 pub offset_bounds-store-from : goal.offset_bounds-store-from
 offset_bounds-store-from c = omega (arith, lent c)
 
-pub slice_bounds-largest_root-count : goal.slice_bounds-largest_root-count
-slice_bounds-largest_root-count c = omega (arith, lent c)
+pub slice_bounds-largest_with-count : goal.slice_bounds-largest_with-count
+slice_bounds-largest_with-count c = omega (arith, lent c)
 
-pub slice_bounds-largest_root-start : goal.slice_bounds-largest_root-start
-slice_bounds-largest_root-start c = omega (arith, lent c)
+pub slice_bounds-largest_with-start : goal.slice_bounds-largest_with-start
+slice_bounds-largest_with-start c = omega (arith, lent c)
 
-pub slice_bounds-largest_root-end : goal.slice_bounds-largest_root-end
-slice_bounds-largest_root-end c = omega (arith, lent c)
+pub slice_bounds-largest_with-end : goal.slice_bounds-largest_with-end
+slice_bounds-largest_with-end c = omega (arith, lent c)
 
-pub largest_root-requires : goal.largest_root-requires
-largest_root-requires c =
-    let at = (goal.at.largest_root-requires c).In-loop-j in
-    rw (part (goal.at.largest_root-requires c).After-diagonal_at-from)
+pub largest_with-most-requires : goal.largest_with-most-requires
+largest_with-most-requires c =
+    let at = (goal.at.largest_with-most-requires c).In-loop-j in
+    rw (part (goal.at.largest_with-most-requires c).After-diagonal_at-from)
     (rw length-take (omega (arith, long at, length-drop (from at) (store at))), numbers at)
 
 pub loop-j-preserved : goal.loop-j-preserved
 loop-j-preserved c =
-    let call = (goal.at.loop-j-preserved c).After-largest_root in
+    let call = (goal.at.loop-j-preserved c).After-map in
     let at = (goal.at.loop-j-preserved c).In-loop-j in
     let inv = c.loop-j.invariant in
     let next = last-next (span at) (settled at) (store at) (order at) (enough at) c.requires.1 c.requires.2 (j at) (inside at) in

@@ -35,12 +35,12 @@ pub returns-in-Err : goal.returns-in-Err
 returns-in-Err c =
     let came = c.in-Err.ensures in
     let end = move-refused c.requires.0 c.requires.1 c.loop-taken.invariant c.args.budget (omega arith)
-    (one-left (goal.at.returns-in-Err c).Else-is_done) came.reached refl (number-nonzero c.in-Err.refusal) in
-    rw c.stopped-in-Err.ensures record { came = record { left = came.left; reached = end.0 }; taken = end.1 }
+    (one-left (goal.at.returns-in-Err c).Else-is_done) came refl (number-nonzero c.in-Err.stop.refusal) in
+    rw c.stopped-in-Err.ensures record { came = end.0; taken = end.1 }
 
 pub loop-taken-preserved : goal.loop-taken-preserved
 loop-taken-preserved c =
-    move-goes c.requires.0 c.requires.1 c.loop-taken.invariant (one-left (goal.at.loop-taken-preserved c).Else-is_done) c.in-Ok.ensures.reached refl refl
+    move-goes c.requires.0 c.requires.1 c.loop-taken.invariant (one-left (goal.at.loop-taken-preserved c).Else-is_done) c.in-Ok.ensures refl refl
 
 pub returns : goal.returns
 returns c =
