@@ -12,7 +12,9 @@
 -- Main statements
 --   zeros-small                    zeros are within ±C
 --   ran-held                       a run without a refusal
+--   listed-cleared                 where the listed relations are cleared, the whole relation store is
 --   ran-cleared                    a refused run, after the rows and the relations that it has listed are cleared
+--   ran-cleared_whole              the same where the whole relation store is cleared
 --   cleared-zeros                  how they are
 --   ran-kept                       a refused run on stores that were changed before it
 use Rattle.std.specs.Prelude.{ℕ, zero, suc, ◌+◌, ◌*◌, ◌-◌, ◌≤◌, ◌≡◌, ◌≢◌, Bool, List, ◌++◌, ℤ, pos, length, take, replicate}
@@ -246,7 +248,7 @@ clear-used used need store h g z =
         ∙ ap zeros unused-size
 
 -- So it is with the relations that are listed.
-listed-cleared : {count : ℕ} {relations relations' : List ℤ} → Listing count relations
+pub listed-cleared : {count : ℕ} {relations relations' : List ℤ} → Listing count relations
     → relations' ≡ overwrite (zeros (count * relation_length)) relations → relations' ≡ overwrite (zeros relation_need) relations
 listed-cleared {count} {relations} listing e =
     e ∙ clear-used (count * relation_length) relation_need relations (omega (arith, listing.few)) listing.within.long listing.unused
@@ -297,20 +299,27 @@ ran-zeros most equations n rows relations h few rows_long relations-long =
     relations' : List ℤ
     relations' = overwrite (zeros relation_need) relations
 
--- The rows and the relations that are listed when the run is refused are cleared.
+-- The rows and the whole relation store are cleared,
+pub ran-cleared_whole : {most equations : ℕ} {rows relations rows₁ relations₁ rows₂ relations₂ : List ℤ} {o : Answer.Outcome} {x : Outcome}
+    → equations ≤ most_equations → row_need equations ≤ length rows
+    → Reached equations rows relations rows₁ relations₁ most o x → o.refusal ≢ 0
+    → rows₂ ≡ overwrite (zeros (row_need equations)) rows₁ → relations₂ ≡ overwrite (zeros relation_need) relations₁
+    → RanWithin most equations rows relations rows₂ relations₂ (answer_of o.refusal (start_progress equations 0)) x
+ran-cleared_whole {most} {equations} {rows} {relations} {rows₁} {relations₁} {rows₂} {relations₂} {o} {x} few room r n e f =
+    subst₂ (λ a b. RanWithin most equations rows relations a b (answer_of o.refusal (start_progress equations 0)) x)
+    (sym (e ∙ zeros-over (row_need equations) rows r.rows-kept)) (sym (f ∙ zeros-over relation_need relations r.relations-kept))
+    (subst (RanWithin most equations rows relations (overwrite (zeros (row_need equations)) rows)
+    (overwrite (zeros relation_need) relations) (answer_of o.refusal (start_progress equations 0))) (refused-outcome r n)
+    (ran-zeros most equations o.refusal rows relations n few room
+    (subst (λ k. relation_need ≤ k) r.relations-kept.same_length r.ready.listing.within.long)))
+
+-- or the rows and the relations that are listed when the run is refused.
 pub ran-cleared : {most equations : ℕ} {rows relations rows₁ relations₁ rows₂ relations₂ : List ℤ} {o : Answer.Outcome} {x : Outcome}
     → equations ≤ most_equations → row_need equations ≤ length rows
     → Reached equations rows relations rows₁ relations₁ most o x → o.refusal ≢ 0
     → rows₂ ≡ overwrite (zeros (row_need equations)) rows₁ → relations₂ ≡ overwrite (zeros (o.progress.count * relation_length)) relations₁
     → RanWithin most equations rows relations rows₂ relations₂ (answer_of o.refusal (start_progress equations 0)) x
-ran-cleared {most} {equations} {rows} {relations} {rows₁} {relations₁} {rows₂} {relations₂} {o} {x} few room r n e f =
-    subst₂ (λ a b. RanWithin most equations rows relations a b (answer_of o.refusal (start_progress equations 0)) x)
-    (sym (e ∙ zeros-over (row_need equations) rows r.rows-kept))
-    (sym (listed-cleared r.ready.listing f ∙ zeros-over relation_need relations r.relations-kept))
-    (subst (RanWithin most equations rows relations (overwrite (zeros (row_need equations)) rows)
-    (overwrite (zeros relation_need) relations) (answer_of o.refusal (start_progress equations 0))) (refused-outcome r n)
-    (ran-zeros most equations o.refusal rows relations n few room
-    (subst (λ k. relation_need ≤ k) r.relations-kept.same_length r.ready.listing.within.long)))
+ran-cleared few room r n e f = ran-cleared_whole few room r n e (listed-cleared r.ready.listing f)
 
 -- The stores were changed before the run.
 pub ran-kept : {most equations : ℕ} {rows relations rows₁ relations₁ rows₂ relations₂ : List ℤ} {o : Answer.Outcome} {x : Outcome}

@@ -10,6 +10,7 @@
 --   outcome-refused              an answer with a refusal
 --   work-refused, work-ended     a step is refused; the end
 --   left-held, left-cleared      what is left of a replay that is not refused, and of one that is
+--   left-cleared_whole           the same where the whole relation store is cleared
 use Rattle.std.specs.Prelude.{ℕ, zero, suc, ◌*◌, ◌≡◌, refl, ◌≢◌, Bool, List, ℤ, Result}
 use Rattle.std.proofs.Math.Nat.{le_trans}
 use Rattle.std.proofs.Common.{sym, ◌∙◌}
@@ -18,7 +19,7 @@ use Rattle.lists.specs.Overwritten.{overwrite}
 use Rattle.rules.specs.Limits.{relation_length}
 use Rattle.rules.specs.Calls.{zeros}
 use Rattle.rules.specs.Elimination.{State, Outcome, going, refused, and_then}
-use Rattle.rules.specs.Stores.{row_need}
+use Rattle.rules.specs.Stores.{row_need, relation_need}
 use Rattle.sides.specs.StoreStates.{kept_then}
 use Rattle.reduction.specs.declared.step.Progress.{Progress}
 use Rattle.reduction.specs.declared.step.Stop.{Stop}
@@ -27,7 +28,7 @@ use Rattle.reduction.specs.Answer.{told, progress_at, run_answer}
 use Rattle.reduction.specs.Progress.{Ready, Reached, state_of, outcome_at, answer_of, start_progress}
 use Rattle.reduction.specs.Progress as Progress
 use Rattle.reduction.specs.Dropping.{freed-then, kept_more}
-use Rattle.reduction.specs.Ran.{RanWithin, ran-held, ran-cleared}
+use Rattle.reduction.specs.Ran.{RanWithin, ran-held, listed-cleared, ran-cleared_whole}
 use Rattle.log_steps.specs.Logs.{most_steps, steps_in, numbers_in, replayed, ordered}
 use Rattle.replays.specs.Replays.{Replayed}
 use Rattle.replays.specs.Endings.{Finished, Ended}
@@ -106,12 +107,18 @@ pub left-held : {rows relations rows' relations' : List ℤ} {first : Progress} 
     → Worked rows relations rows' relations' first o x → o.refusal ≡ 0 → Left rows relations rows' relations' first o x
 left-held ready w e = record { ran = ran-held ready.rows-within.long w.reached e; finished = w.finished }
 
+pub left-cleared_whole : {rows relations rows₁ relations₁ rows₂ relations₂ : List ℤ} {first : Progress} {o : Answer.Outcome} {x : Outcome}
+    → Ready rows relations first → Worked rows relations rows₁ relations₁ first o x → o.refusal ≢ 0
+    → rows₂ ≡ overwrite (zeros (row_need first.rows)) rows₁ → relations₂ ≡ overwrite (zeros relation_need) relations₁
+    → Left rows relations rows₂ relations₂ first (answer_of o.refusal (start_progress first.rows 0)) x
+left-cleared_whole ready w n e f =
+    record {
+      ran = ran-cleared_whole ready.few-rows ready.rows-within.long w.reached n e f;
+      finished = record { all_settled = λ z. absurd (n z) };
+    }
+
 pub left-cleared : {rows relations rows₁ relations₁ rows₂ relations₂ : List ℤ} {first : Progress} {o : Answer.Outcome} {x : Outcome}
     → Ready rows relations first → Worked rows relations rows₁ relations₁ first o x → o.refusal ≢ 0
     → rows₂ ≡ overwrite (zeros (row_need first.rows)) rows₁ → relations₂ ≡ overwrite (zeros (o.progress.count * relation_length)) relations₁
     → Left rows relations rows₂ relations₂ first (answer_of o.refusal (start_progress first.rows 0)) x
-left-cleared ready w n e f =
-    record {
-      ran = ran-cleared ready.few-rows ready.rows-within.long w.reached n e f;
-      finished = record { all_settled = λ z. absurd (n z) };
-    }
+left-cleared ready w n e f = left-cleared_whole ready w n e (listed-cleared w.reached.ready.listing f)

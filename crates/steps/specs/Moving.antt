@@ -8,6 +8,7 @@
 -- Main statements
 --   move-starts               the loop's start
 --   moved-held, moved-cleared what a run gives that is not refused, and one that is
+--   moved-cleared_whole       the same where the whole relation store is cleared
 --   halted                    the stores where a step is refused
 --   moved-as                  the same where it is known which of both it is
 use Rattle.std.specs.Prelude.{ℕ, ◌*◌, ◌≡◌, refl, List, ℤ, Result}
@@ -24,7 +25,7 @@ use Rattle.sides.specs.StoreStates.{kept_same}
 use Rattle.reduction.specs.Answer.{told, progress_at, run_answer}
 use Rattle.reduction.specs.Progress.{Ready, Reached, Came, state_of, outcome_of, answer_of, most_steps, final_answer}
 use Rattle.reduction.specs.Dropping.{freed-none}
-use Rattle.reduction.specs.Ran.{Ran, ran-held, ran-cleared}
+use Rattle.reduction.specs.Ran.{Ran, ran-held, listed-cleared, ran-cleared_whole}
 use Rattle.reduction.specs.declared.step.Progress.{Progress}
 use Rattle.reduction.specs.declared.step.Stop.{Stop}
 use Rattle.steps.specs.Budgets.{Walk, steps, Led, stays}
@@ -86,16 +87,21 @@ module _ {first : Progress} {budget : ℕ} {rows relations : List ℤ} {r : Move
   halted {rows₁} {relations₁} e m =
       subst (λ run. Reached first.rows rows relations rows₁ relations₁ most_steps (run_answer (told run) (progress_at run)) (walk_of first budget rows relations).outcome) e m.came
 
-  pub moved-cleared : {rows₁ relations₁ rows₂ relations₂ : List ℤ} {n : Stop} → r.run ≡ Err n
+  pub moved-cleared_whole : {rows₁ relations₁ rows₂ relations₂ : List ℤ} {n : Stop} → r.run ≡ Err n
       → Moves first budget rows relations rows₁ relations₁ r → rows₂ ≡ overwrite (zeros (row_need first.rows)) rows₁
-      → relations₂ ≡ overwrite (zeros (n.progress.count * relation_length)) relations₁ → MovedTo first budget rows relations rows₂ relations₂ r
-  moved-cleared {rows₁} {relations₁} {rows₂} {relations₂} {n} e m f g =
+      → relations₂ ≡ overwrite (zeros relation_need) relations₁ → MovedTo first budget rows relations rows₂ relations₂ r
+  moved-cleared_whole {rows₁} {relations₁} {rows₂} {relations₂} {n} e m f g =
       record {
         ran = subst (λ run. Ran first.rows rows relations rows₂ relations₂ (final_answer first.rows (told run)) (walk_of first budget rows relations).outcome) (sym e)
-            (ran-cleared ready.few-rows ready.rows-within.long
+            (ran-cleared_whole ready.few-rows ready.rows-within.long
             (halted e m) (number-nonzero n.refusal) f g);
         taken = m.taken;
       }
+
+  pub moved-cleared : {rows₁ relations₁ rows₂ relations₂ : List ℤ} {n : Stop} → r.run ≡ Err n
+      → Moves first budget rows relations rows₁ relations₁ r → rows₂ ≡ overwrite (zeros (row_need first.rows)) rows₁
+      → relations₂ ≡ overwrite (zeros (n.progress.count * relation_length)) relations₁ → MovedTo first budget rows relations rows₂ relations₂ r
+  moved-cleared e m f g = moved-cleared_whole e m f (listed-cleared (halted e m).ready.listing g)
 
 -- What is known of the result, for each of its parts.
 pub moved-as : {first : Progress} {budget : ℕ} {rows relations rows' relations' : List ℤ} {r : Moved} {x : Result Progress Stop}
